@@ -1,0 +1,60 @@
+-- The reader from what its calls ensure, over plain variables.
+use Prim.Native.Nat.{ℕ, _≤_}
+use mathlib.Core.Path.{_≡_, refl, sym, _∙_, ap}
+use mathlib.Core.List.{List}
+use native.Mathlib.Omega.{arith}
+use lib.ListN.{length}
+use Rattle.octets.specs.Answer.{Answer, accepted, refused, _then_, unplaced}
+use Rattle.layout.specs.declared.Row.{Row}
+use Rattle.layout.specs.declared.Parts.{Parts}
+use Rattle.layout.specs.declared.Body.{Body}
+use Rattle.layout.specs.declared.Body.the-variants.{Laid, Broken}
+use Rattle.layout.specs.Container.{kindAt, partsOf}
+use Rattle.layout.specs.Told.{bodyTold}
+use Rattle.layout.proofs.Exactly.{parts-exactly}
+use Rattle.isup.specs.declared.Message.{Message}
+use Rattle.isup.specs.declared.Scanned.{Scanned}
+use Rattle.isup.specs.declared.Scanned.the-variants.{Whole, Faulty}
+use Rattle.isup.specs.Table.{shapeOf}
+use Rattle.isup.specs.Read.{circuitOf, message, readOf}
+use Rattle.isup.specs.Find.{Spot, soughtIn, locateOf}
+use Rattle.isup.specs.Told.{scanTold}
+
+module _ (m : List ℕ) (k : ℕ) (r : Row) (b : Body) (kq : k ≡ kindAt m 2) (rq : r ≡ shapeOf k) (bq : bodyTold b ≡ partsOf m 2 268 r) where
+  whole : bodyTold b ≡ partsOf m 2 268 (shapeOf (kindAt m 2))
+  whole = bq ∙ ap (partsOf m 2 268) (rq ∙ ap shapeOf kq)
+
+  pub read-long : (p : Parts) → b ≡ Laid p → 2 ≤ length m
+  read-long p e = let f = parts-exactly m 2 268 r p .0 (sym bq ∙ ap bodyTold e) in omega (arith, f .least)
+
+  pub read-laid : (p : Parts) (ci : ℕ) → b ≡ Laid p → ci ≡ circuitOf m → accepted (record { circuit = ci; kind = k; parts = p }) ≡ readOf m
+  unfolding readOf
+  read-laid p ci e q =
+      ap accepted (λ i. record { circuit = q i; kind = kq i; parts = p })
+      ∙ ap (λ x. x then λ p. accepted (message m p)) (sym (ap bodyTold e) ∙ whole)
+
+  pub read-broken : (n at : ℕ) → b ≡ Broken n at → refused n at ≡ readOf m
+  unfolding readOf
+  read-broken n at e = ap (λ x. x then λ p. accepted (message m p)) (sym (ap bodyTold e) ∙ whole)
+
+-- the reader's answer, handed on
+module _ (m : List ℕ) (x : Scanned) (q : scanTold x ≡ readOf m) where
+  pub whole-read : (y : Message) → x ≡ Whole y → readOf m ≡ accepted y
+  whole-read y e = sym q ∙ ap scanTold e
+
+  pub faulty-read : (n at : ℕ) → x ≡ Faulty n at → readOf m ≡ refused n at
+  faulty-read n at e = sym q ∙ ap scanTold e
+
+  pub faulty-unplaced : (n at : ℕ) → x ≡ Faulty n at → refused n 0 ≡ unplaced (readOf m)
+  faulty-unplaced n at e = ap unplaced (sym (faulty-read n at e))
+
+  pub whole-unplaced : (y : Message) → x ≡ Whole y → accepted y ≡ unplaced (readOf m)
+  whole-unplaced y e = ap unplaced (sym (whole-read y e))
+
+  pub faulty-located : (d : List ℕ) (name n at : ℕ) → x ≡ Faulty n at → refused n at ≡ locateOf m d name
+  unfolding locateOf
+  faulty-located d name n at e = ap (λ z. z then λ y. soughtIn m (y .parts .optional) d name) (sym (faulty-read n at e))
+
+  pub whole-located : (d : List ℕ) (name : ℕ) (y : Message) → x ≡ Whole y → soughtIn m (y .parts .optional) d name ≡ locateOf m d name
+  unfolding locateOf
+  whole-located d name y e = ap (λ z. z then λ y. soughtIn m (y .parts .optional) d name) (sym (whole-read y e))

@@ -1,0 +1,19 @@
+-- The reader: the circuit number, then the container from the type octet on, 3 to 268 octets in all.
+use Prim.Native.Nat.{ℕ, _+_, _*_, _%_}
+use mathlib.Core.List.{List}
+use Rattle.octets.specs.Octet.{octet}
+use Rattle.octets.specs.Answer.{Answer, accepted, _then_}
+use Rattle.layout.specs.declared.Parts.{Parts}
+use Rattle.layout.specs.Container.{kindAt, partsOf}
+use Rattle.isup.specs.declared.Message.{Message}
+use Rattle.isup.specs.Table.{shapeOf}
+
+-- octets 0 and 1: low eight bits first, high four bits in the low half of octet 1; the high half is ignored
+abbrev pub circuitOf : List ℕ → ℕ
+circuitOf m = octet m 0 + 256 * (octet m 1 % 16)
+
+abbrev pub message : List ℕ → Parts → Message
+message m p = record { circuit = circuitOf m; kind = kindAt m 2; parts = p }
+
+unfoldable pub readOf : List ℕ → Answer Message
+readOf m = partsOf m 2 268 (shapeOf (kindAt m 2)) then λ p. accepted (message m p)

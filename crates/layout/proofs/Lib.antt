@@ -1,0 +1,9 @@
+pub mod Steps
+pub mod Pointed
+pub mod Runs
+pub mod Whole
+pub mod Exactly
+pub mod Judged
+pub mod Gaps
+pub mod Header
+pub mod Determined

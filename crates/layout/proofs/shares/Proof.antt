@@ -1,0 +1,19 @@
+use Rattle.octets.proofs.Tests.{tests}
+use Rattle.layout.specs.Container.{sharesOf}
+use Rattle.layout.proofs.shares.Statement.{statement}
+use Rattle.layout.proofs.shares.Tie as tie
+
+returns : tie.Need-returns
+unfolding sharesOf
+returns c = search tests
+
+returns-2 : tie.Need-returns-2
+unfolding sharesOf
+returns-2 c = search tests
+
+returns-3 : tie.Need-returns-3
+unfolding sharesOf
+returns-3 c = search tests
+
+pub shares-spec : {M : Type 1} → statement M
+shares-spec = tie.close (tie.spec returns returns-2 returns-3)

@@ -1,0 +1,118 @@
+-- The container of a message, from its type octet on: where each part stands, or which number is given back, with the octet that it is about.
+-- The order is the paper's: 1, 2, 3, 4; each variable pointer in turn 5 then 6; the optional pointer 5 then 7; then 8.
+use Prim.Native.Nat.{ℕ, _+_, _-_}
+use mathlib.Core.Bool.{Bool, true, false}
+use mathlib.Core.List.{List}
+use lib.ListN.{length}
+use lib.Dec.{ltb, leb, eqb}
+use Rattle.octets.specs.Octet.{octet}
+use Rattle.octets.specs.Choice.{if_then_else_}
+use Rattle.octets.specs.Answer.{Answer, accepted, refused, _then_}
+use Rattle.layout.specs.declared.Span.{Span}
+use Rattle.layout.specs.declared.Shape.{Shape}
+use Rattle.layout.specs.declared.Parts.{Parts}
+use Rattle.layout.specs.declared.Row.{Row}
+use Rattle.layout.specs.declared.Row.the-variants.{Has, Unknown}
+use Rattle.layout.specs.Run.{span, runFrom}
+
+-- a part that is not there
+abbrev pub nothing : Span
+nothing = span 0 0
+
+-- a pointer at octet p with value v points at p+v
+abbrev pub target : List ℕ → ℕ → ℕ
+target m p = p + octet m p
+
+-- no target may lie before e, where the pointers end, or at the message's length or beyond: 5, about the pointer
+abbrev pub pointed : List ℕ → ℕ → ℕ → Answer ℕ
+pointed m p e =
+    if ltb (target m p) e then refused 5 p
+    else (if leb (length m) (target m p) then refused 5 p else accepted (target m p))
+
+-- past a variable parameter that starts at t: a length octet, then that many octets
+abbrev pub past : List ℕ → ℕ → ℕ
+past m t = t + 1 + octet m t
+
+-- the variable parameter that starts at t. 6 where its contents pass the message's length, about the length octet
+abbrev pub variableFrom : List ℕ → ℕ → Answer Span
+variableFrom m t = if ltb (length m) (past m t) then refused 6 t else accepted (span t (past m t))
+
+-- the variable parameter whose pointer stands at p; a pointer of 0 is no exception
+unfoldable pub variableAt : List ℕ → ℕ → ℕ → Answer Span
+variableAt m p e = pointed m p e then variableFrom m
+
+-- the optional part whose pointer stands at p; the pointer may be 0: nothing there
+unfoldable pub optionalAt : List ℕ → ℕ → ℕ → Answer Span
+optionalAt m p e = if eqb (octet m p) 0 then accepted nothing else (pointed m p e then runFrom m)
+
+-- the first pointer's octet: past the header, the type and the fixed part. Then one pointer for each variable parameter, then, if there is an optional part, one pointer to it
+abbrev pub bit : Bool → ℕ
+bit true = 1
+bit false = 0
+
+abbrev pub startOf : ℕ → Shape → ℕ
+startOf w s = w + 1 + s .fixed
+
+abbrev pub endOf : ℕ → Shape → ℕ
+endOf w s = startOf w s + s .vars + bit (s .opt)
+
+-- the k-th of n variable parameters, where the first pointer stands at `at`
+unfoldable pub variableSlot : List ℕ → ℕ → ℕ → ℕ → ℕ → Answer Span
+variableSlot m at k n e = if ltb k n then variableAt m (at + k) e else accepted nothing
+
+-- the optional part, whose pointer is the last of the pointers
+unfoldable pub optionalSlot : List ℕ → Bool → ℕ → Answer Span
+optionalSlot m o e = if o then optionalAt m (e - 1) e else accepted nothing
+
+-- two parts share an octet where neither ends before the other starts
+unfoldable pub sharesOf : Span → Span → Bool
+sharesOf a b = if leb (b .to) (a .from) then false else (if leb (a .to) (b .from) then false else true)
+
+abbrev pub later : Span → Span → ℕ
+later a b = if ltb (a .from) (b .from) then b .from else a .from
+
+-- what a variable parameter holds is past its length octet; what an optional part holds comes before its closing 0
+abbrev pub contentsOf : Span → Span
+contentsOf s = if ltb (s .from) (s .to) then span (s .from + 1) (s .to) else s
+
+abbrev pub runOf : Span → Span
+runOf s = if ltb (s .from) (s .to) then span (s .from) (s .to - 1) else s
+
+unfoldable pub held : Span → Span → Span → Span → Span → Parts
+held f a b c d = record { fixed = f; first = contentsOf a; second = contentsOf b; third = contentsOf c; optional = runOf d }
+
+-- 8 where two parts share an octet, about the later start: the pairs in pointer order, by first member, then second
+unfoldable pub judged : Span → Span → Span → Span → Span → Answer Parts
+judged f a b c d =
+    if sharesOf a b then refused 8 (later a b)
+    else (if sharesOf a c then refused 8 (later a c)
+    else (if sharesOf a d then refused 8 (later a d)
+    else (if sharesOf b c then refused 8 (later b c)
+    else (if sharesOf b d then refused 8 (later b d)
+    else (if sharesOf c d then refused 8 (later c d)
+    else accepted (held f a b c d))))))
+
+-- a message of that shape, its type octet at w. 4 where the fixed part or the pointers are cut off, about the message's end
+unfoldable pub containerOf : List ℕ → ℕ → Shape → Answer Parts
+containerOf m w s =
+    if ltb (length m) (endOf w s) then refused 4 (length m)
+    else (variableSlot m (startOf w s) 0 (s .vars) (endOf w s) then λ a.
+    variableSlot m (startOf w s) 1 (s .vars) (endOf w s) then λ b.
+    variableSlot m (startOf w s) 2 (s .vars) (endOf w s) then λ c.
+    optionalSlot m (s .opt) (endOf w s) then λ d.
+    judged (span (w + 1) (startOf w s)) a b c d)
+
+-- the type octet stands at the header's width
+abbrev pub kindAt : List ℕ → ℕ → ℕ
+kindAt m w = octet m w
+
+-- 3 for a type that is not in the family's table, about the type octet
+abbrev pub ofRow : List ℕ → ℕ → Row → Answer Parts
+ofRow m w (Has s) = containerOf m w s
+ofRow m w Unknown = refused 3 w
+
+-- a whole message of a family: 1 where it ends before the type octet, 2 where it is longer than the longest
+unfoldable pub partsOf : List ℕ → ℕ → ℕ → Row → Answer Parts
+partsOf m w most r =
+    if leb (length m) w then refused 1 0
+    else (if ltb most (length m) then refused 2 0 else ofRow m w r)

@@ -1,0 +1,24 @@
+-- What each case of an answer says, in document 01's terms.
+use Prim.Native.Nat.{ℕ}
+use Rattle.octets.specs.Answer.{Answer, accepted, refused}
+use Rattle.layout.specs.declared.Span.{Span}
+use Rattle.layout.specs.declared.Parts.{Parts}
+use Rattle.layout.specs.declared.Target.{Target}
+use Rattle.layout.specs.declared.Target.the-variants.{At as To, Off}
+use Rattle.layout.specs.declared.Slot.{Slot}
+use Rattle.layout.specs.declared.Slot.the-variants.{At, Bad}
+use Rattle.layout.specs.declared.Body.{Body}
+use Rattle.layout.specs.declared.Body.the-variants.{Laid, Broken}
+
+-- of the pointer at p
+abbrev pub targetTold : ℕ → Target → Answer ℕ
+targetTold p (To t) = accepted t
+targetTold p Off = refused 5 p
+
+abbrev pub slotTold : Slot → Answer Span
+slotTold (At s) = accepted s
+slotTold (Bad n at) = refused n at
+
+abbrev pub bodyTold : Body → Answer Parts
+bodyTold (Laid p) = accepted p
+bodyTold (Broken n at) = refused n at

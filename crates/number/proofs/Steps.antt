@@ -1,0 +1,70 @@
+-- One step of a walk over signals, as a proof of the code cites it.
+use Prim.Native.Nat.{ℕ, suc, _+_, _*_, _/_, _%_, _<_, _≤_}
+use mathlib.Core.Path.{_≡_, sym, _∙_}
+use mathlib.Core.Bool.{true, false}
+use mathlib.Core.List.{List, _∷_}
+use native.Mathlib.Omega.{arith}
+use borrow.Author.Tests.{lt-ltb, le-ltb}
+use lib.ListN.{length, getD, drop, set, drop-of-length-le}
+use lib.Seq.{drop-cons, sets}
+use Rattle.number.specs.Halves.{octetOf, packed}
+use Rattle.number.specs.Contents.{countIn, signalsIn}
+use Rattle.number.specs.Write.{anyAbove15}
+use Rattle.number.specs.Laws.{length-signals, signal-low, signal-high}
+
+-- nothing is left to store
+pub sets-none : (l : List ℕ) (i k : ℕ) (xs : List ℕ) → length xs ≤ k → sets l i (drop k xs) ≡ l
+sets-none l i k xs h = rw (drop-of-length-le xs h)
+
+-- one is stored, and then the rest
+pub sets-more : (l : List ℕ) (i i′ k k′ v : ℕ) (xs : List ℕ) → k < length xs → v ≡ getD xs k 0 → k′ ≡ suc k → i′ ≡ suc i → sets (set l i v) i′ (drop k′ xs) ≡ sets l i (drop k xs)
+sets-more l i i′ k k′ v xs h e p q = rw (drop-cons xs k 0 h, e, p, q)
+
+-- none is left to read
+pub read-none : (contents l : List ℕ) (k : ℕ) → countIn contents ≤ k → l ≡ sets l k (drop k (signalsIn contents))
+read-none contents l k h = sym (sets-none l k k (signalsIn contents) (omega (arith, length-signals contents)))
+
+-- the low half of octet `at` of the signals is read, and then the rest
+pub read-low-more : (contents l m : List ℕ) (at v : ℕ) → 2 * at < countIn contents → m ≡ sets (set l (2 * at) v) (2 * at + 1) (drop (2 * at + 1) (signalsIn contents)) → v ≡ getD contents (at + 2) 0 % 16 → m ≡ sets l (2 * at) (drop (2 * at) (signalsIn contents))
+read-low-more contents l m at v h rest e =
+    rest ∙ sets-more l (2 * at) (2 * at + 1) (2 * at) (2 * at + 1) v (signalsIn contents) (omega (arith, length-signals contents)) (e ∙ sym (signal-low contents at h)) (omega arith) (omega arith)
+
+-- the high half of octet `at` of the signals is read, and then the rest
+pub read-high-more : (contents l m : List ℕ) (at v : ℕ) → 2 * at + 1 < countIn contents → m ≡ sets (set l (2 * at + 1) v) (2 * (at + 1)) (drop (2 * (at + 1)) (signalsIn contents)) → v ≡ getD contents (at + 2) 0 / 16 → m ≡ sets l (2 * at + 1) (drop (2 * at + 1) (signalsIn contents))
+read-high-more contents l m at v h rest e =
+    rest ∙ sets-more l (2 * at + 1) (2 * (at + 1)) (2 * at + 1) (2 * (at + 1)) v (signalsIn contents) (omega (arith, length-signals contents)) (e ∙ sym (signal-high contents at h)) (omega arith) (omega arith)
+
+-- the next signal is taken for a low half
+pub write-taken : (signals l m : List ℕ) (i k k′ : ℕ) → k < length signals → k′ ≡ suc k → m ≡ sets l i (packed (getD signals k 0 ∷ drop k′ signals)) → m ≡ sets l i (packed (drop k signals))
+write-taken signals l m i k k′ h e q = rw (drop-cons signals k 0 h, ← e) q
+
+-- none is left to write
+pub write-none : (signals l : List ℕ) (i k : ℕ) → length signals ≤ k → l ≡ sets l i (packed (drop k signals))
+unfolding packed
+write-none signals l i k h = rw (drop-of-length-le signals h)
+
+-- the last signal is written over filler 0
+pub write-last : (signals l : List ℕ) (i k low : ℕ) → length signals ≤ k → set l i low ≡ sets l i (packed (low ∷ drop k signals))
+unfolding packed
+write-last signals l i k low h =
+    let e : low + 16 * 0 ≡ low = omega arith in rw (drop-of-length-le signals h, e)
+
+-- two signals are written as one octet, and then the rest
+pub write-both : (signals l m : List ℕ) (i i′ k k′ low v : ℕ) → k < length signals → i′ ≡ suc i → k′ ≡ suc k → m ≡ sets (set l i v) i′ (packed (drop k′ signals)) → v ≡ octetOf low (getD signals k 0) → m ≡ sets l i (packed (low ∷ drop k signals))
+unfolding packed
+write-both signals l m i i′ k k′ low v h p q rest e = rest ∙ rw (drop-cons signals k 0 h, p, q, e)
+
+-- a signal above 15 is found
+pub above-here : (signals : List ℕ) (i : ℕ) → i < length signals → 15 < getD signals i 0 → anyAbove15 (drop i signals) ≡ true
+unfolding anyAbove15
+above-here signals i h a = rw (drop-cons signals i 0 h, lt-ltb 15 (getD signals i 0) a)
+
+-- a signal of at most 15 is passed
+pub above-next : (signals : List ℕ) (i i′ : ℕ) → i < length signals → getD signals i 0 ≤ 15 → i′ ≡ suc i → anyAbove15 (drop i′ signals) ≡ anyAbove15 (drop i signals)
+unfolding anyAbove15
+above-next signals i i′ h a e = rw (drop-cons signals i 0 h, le-ltb 15 (getD signals i 0) a, e)
+
+-- none is left to look at
+pub above-none : (signals : List ℕ) (i : ℕ) → length signals ≤ i → anyAbove15 (drop i signals) ≡ false
+unfolding anyAbove15
+above-none signals i h = rw (drop-of-length-le signals h)

@@ -1,0 +1,17 @@
+-- What is given back: the values, or the refusal's number of document 01 with the octet that it is about (0 where it is about none).
+use Prim.Native.Nat.{ℕ}
+
+pub data Answer (A : Type 0) : Type 0 where
+  accepted : A → Answer A
+  refused : ℕ → ℕ → Answer A
+
+infixr 9 _then_
+-- go on with what was accepted; a refusal ends it
+abbrev pub _then_ : {A B : Type 0} → Answer A → (A → Answer B) → Answer B
+_then_ (accepted a) f = f a
+_then_ (refused n at) f = refused n at
+
+-- the number alone, where an answer does not show the octet that it is about
+abbrev pub unplaced : {A : Type 0} → Answer A → Answer A
+unplaced (accepted a) = accepted a
+unplaced (refused n at) = refused n 0
