@@ -3,3 +3,7 @@ pub mod Spots
 pub mod Exactly
 pub mod Judged
 pub mod Determined
+pub mod Rewritten
+pub mod WriteBack
+pub mod CompactAgain
+pub mod Rel

@@ -4,3 +4,6 @@ pub mod Find
 pub mod Told
 pub mod WellFormed
 pub mod Faults
+pub mod Write
+pub mod Compact
+pub mod WriteFaults

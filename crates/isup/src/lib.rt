@@ -1,13 +1,17 @@
-// ISUP: the 24 types, the circuit number, the reader, and the finding of optional parameters.
+// ISUP: the 24 types, the circuit number, the reader, the finding of optional parameters, and the writer.
 ghost use mathlib.Core.Path.{_≡_};
 ghost use Prim.Native.Nat.{_+_, _≤_, _<_};
 ghost use mathlib.Core.List.{[]};
 ghost use lib.ListN.{length};
-ghost use Rattle.octets.specs.Answer.{unplaced};
+ghost use Rattle.octets.specs.Answer.{accepted, unplaced};
 ghost use Rattle.octets.specs.Stretch.{Stretch};
+ghost use Rattle.octets.specs.Filled.{leaving};
 ghost use Rattle.isup.specs.Table.{shapeOf};
 ghost use Rattle.isup.specs.Read.{circuitOf, readOf};
 ghost use Rattle.isup.specs.Find.{namedIn, firstOf, soughtIn, locateOf, startOf, lengthOf, codeOf, heldBy};
+ghost use Rattle.isup.specs.Write.{writeOf, compactOf};
+ghost use Rattle.writing.specs.Compact.{partOf};
+ghost use Rattle.writing.specs.Told.{writtenTold};
 ghost use Rattle.isup.specs.Told.{scanTold, readingTold, locatedTold};
 use layout::Body;
 use layout::Found;
@@ -15,6 +19,7 @@ use layout::Parts;
 use layout::Row;
 use layout::Shape;
 use layout::Span;
+use writing::Written;
 
 // The types of the table.
 pub const IAM: u8 = 0x01;
@@ -251,4 +256,86 @@ pub fn find_or_default_code(message: &[u8], defaults: &[u8], name: u32) -> u8
         Located::Defaults(_, _) => 100,
         Located::Refused(n, _) => n,
     }
+}
+
+// Writes a message in its compact form: fills the front of `out` and keeps the rest, and answers how many octets were written.
+// Refused with 9, 3, 10, 11, 12, 2, 13 in that order, and then `out` holds what it held.
+pub fn write(
+    circuit: u32,
+    kind: u32,
+    fixed: &[u8],
+    first: &[u8],
+    second: &[u8],
+    optional: &[u8],
+    out: &mut [u8],
+) -> Written
+    ensures { λ r. ⌜ leaving (writtenTold r) (now (out .exit)) ≡ writeOf circuit kind (now (fixed .entry)) (now (first .entry)) (now (second .entry)) (now (optional .entry)) (now (out .entry)) ⌝ }
+{
+    if 4095 < circuit {
+        return Written::Refused(9);
+    }
+    if 255 < kind {
+        return Written::Refused(3);
+    }
+    let octet = kind as u8;
+    match shape_of(octet) {
+        Row::Unknown => Written::Refused(3),
+        Row::Has(shape) => {
+            let head = [(circuit % 256) as u8, (circuit / 256) as u8];
+            writing::write_parts(
+                shape,
+                268,
+                &head,
+                octet,
+                fixed,
+                first,
+                second,
+                &optional[0..0],
+                optional,
+                out,
+            )
+        }
+    }
+}
+
+// Reads a message and writes it again, in its compact form: fills the front of `out` and keeps the rest, and answers how many octets were written.
+// Refused with the reader's numbers, then 12, then 13, and then `out` holds what it held.
+pub fn compact(message: &[u8], out: &mut [u8]) -> Written
+    ensures { λ r. ⌜ leaving (writtenTold r) (now (out .exit)) ≡ compactOf (now (message .entry)) (now (out .entry)) ⌝ }
+{
+    match scan(message) {
+        Scanned::Faulty(n, _) => Written::Refused(n),
+        Scanned::Whole(x) => again(message, x, out),
+    }
+}
+
+// Writes again what a message says that reads so.
+fn again(message: &[u8], x: Message, out: &mut [u8]) -> Written
+    requires { ⌜ readOf (now message) ≡ accepted x ⌝ }
+    ensures { λ r. ⌜ leaving (writtenTold r) (now (out .exit)) ≡ compactOf (now (message .entry)) (now (out .entry)) ⌝ }
+{
+    let parts = x.parts;
+    let fixed = part_of(message, parts.fixed);
+    let first = part_of(message, parts.first);
+    let second = part_of(message, parts.second);
+    let optional = part_of(message, parts.optional);
+    write(
+        x.circuit as u32,
+        x.kind as u32,
+        fixed,
+        first,
+        second,
+        optional,
+        out,
+    )
+}
+
+// The octets of a span of the message.
+fn part_of(message: &[u8], span: Span) -> &[u8]
+    requires { ⌜ (span .from ≤ span .to) × (span .to ≤ length (now message)) ⌝ }
+    ensures { λ r. ⌜ now r ≡ partOf (now (message .entry)) span ⌝ }
+{
+    let from = span.from;
+    let to = span.to;
+    &message[from..to]
 }

@@ -21,7 +21,7 @@ use Rattle.layout.specs.declared.Parts.{Parts}
 use Rattle.layout.specs.declared.Row.{Row}
 use Rattle.layout.specs.declared.Row.the-variants.{Has, Unknown}
 use Rattle.layout.specs.Run.{span, stopFrom, closed, runFrom, isRun, ended}
-use Rattle.layout.specs.Container.{nothing, past, pointed, variableFrom, variableAt, optionalAt, variableSlot, optionalSlot, startOf, endOf, sharesOf, later, runOf, held, judged, containerOf, ofRow, partsOf}
+use Rattle.layout.specs.Container.{nothing, past, pointed, variableFrom, variableAt, optionalAt, variableSlot, optionalSlot, startOf, endOf, sharesOf, later, contentsOf, runOf, held, judged, containerOf, ofRow, partsOf}
 use Rattle.layout.specs.Laid.{Points, Variable, Param, Params, Closes, Run, Optional, VariableSlot, OptionalSlot, In, Share, AllApart, LaidOut, Framed}
 use Rattle.layout.proofs.Pointed.{pointed-points, points-pointed}
 use Rattle.layout.proofs.Runs.{placeOf, Stopped, params-on, params-inside, stop-from, from-stop, params-unique}
@@ -321,3 +321,37 @@ run-params m w shape p qs l = rw (l .holds) (go (shape .opt) (l .optional))
     go : (o : Bool) → OptionalSlot m (endOf w shape) o qs (l .d) → ((runOf (l .d) .from < runOf (l .d) .to) × Params m (runOf (l .d) .from) qs (runOf (l .d) .to) × Closes m (runOf (l .d) .to)) ⊎ ((runOf (l .d) .to ≤ runOf (l .d) .from) × (qs ≡ []))
     go false x = none (l .d) (x .1) (x .0)
     go true x = ⊎-elim (λ y. none (l .d) (y .2) (y .1)) (λ y. some (l .d) (y .2)) x
+
+-- ---- the parts lie within the message
+abbrev pub Inside : List ℕ → Span → Type 0
+Inside m s = (s .from ≤ s .to) × (s .to ≤ length m)
+
+contents-inside : (m : List ℕ) (e at k n : ℕ) (s : Span) → VariableSlot m e at k n s → Inside m (contentsOf s)
+contents-inside m e at k n s =
+    ⊎-elim
+    (λ v. let h : s .from < s .to = omega (arith, v .1 .ends) in simp (lt-ltb _ _ h) (omega arith, v .1 .inside))
+    (λ v. rw (v .1) (omega arith, omega arith))
+
+pub parts-inside : (m : List ℕ) (w : ℕ) (shape : Shape) (p : Parts) (qs : List Param) → LaidOut m w shape p qs
+    → Inside m (p .fixed) × Inside m (p .first) × Inside m (p .second) × Inside m (p .third) × Inside m (p .optional)
+unfolding held
+parts-inside m w shape p qs l =
+    rw (l .holds) (
+      (omega arith, omega (arith, l .whole)),
+      contents-inside m (endOf w shape) (startOf w shape) 0 (shape .vars) (l .a) (l .first),
+      contents-inside m (endOf w shape) (startOf w shape) 1 (shape .vars) (l .b) (l .second),
+      contents-inside m (endOf w shape) (startOf w shape) 2 (shape .vars) (l .c) (l .third),
+      go (shape .opt) (l .optional),
+    )
+  where
+    go : (o : Bool) → OptionalSlot m (endOf w shape) o qs (l .d) → Inside m (runOf (l .d))
+    go false x = rw (x .1) (omega arith, omega arith)
+    go true x =
+        ⊎-elim
+        (λ y. rw (y .2) (omega arith, omega arith))
+        (λ y.
+        let r = y .2 in
+        let on = params-on qs m (l .d .from) (r .0) (r .1) in
+        let h : l .d .from < l .d .to = omega (arith, r .3) in
+        simp (lt-ltb _ _ h) (omega (arith, r .3), omega (arith, r .3, r .2 .0)))
+        x

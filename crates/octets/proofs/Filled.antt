@@ -1,16 +1,17 @@
 -- Laws of an answer with a lent buffer: a refusal keeps the buffer, what is accepted fills its front.
 use Prim.Native.Nat.{ℕ, _≤_}
 use mathlib.Core.Path.{_≡_, refl, sym, _∙_, ap}
-use mathlib.Core.List.{List}
+use mathlib.Core.List.{List, [], _∷_, _++_}
 use native.Mathlib.Omega.{arith}
 use native.Mathlib.Nat.{zero-add}
-use borrow.Author.Tests.{ltb-false}
+use borrow.Author.Tests.{ltb-true, ltb-false}
 use lib.Dec.{ltb}
 use lib.ListN.{length, take}
 use lib.Seq.{sets, sets-eq, take-at}
 use Rattle.octets.specs.Answer.{Answer, accepted, refused, _then_}
 use Rattle.octets.specs.Faults.{Fault, Judges}
-use Rattle.octets.specs.Filled.{Done, done, filled, roomFor, leaving}
+use Rattle.octets.specs.Filled.{Done, done, filled, roomFor, leaving, roomFault}
+use Rattle.octets.proofs.Faults.{judges-done, judges-if, judges-then}
 use Rattle.octets.proofs.Answer.{refused-accepted, accepted-same, refused-same, then-accepted, past-test}
 
 -- a refusal keeps the lent buffer
@@ -53,3 +54,12 @@ judges-filled buffer (refused n at) fs j = record {
   );
   accepts = (λ e. absurd (refused-accepted (e .1)), λ f. absurd (refused-accepted (j .accepts .1 f .1)));
 }
+
+-- 13 comes last
+pub room-judges : {A : Type 0} (x : Answer (A × List ℕ)) (buffer : List ℕ) (fs : List Fault) → Judges x fs → Judges (x then roomFor buffer) (fs ++ (roomFault x buffer ∷ []))
+room-judges {A} x buffer fs j =
+    judges-then x (roomFor buffer) fs _ j
+    (λ y e.
+    judges-if (ltb (length buffer) (length (y .1))) (λ t. (y .0, y .1, e, ltb-true _ _ t))
+    (λ t h. let q : y .1 ≡ h .1 = ap (λ (z : A × List ℕ). z .1) (accepted-same (sym e ∙ h .2)) in omega (arith, ltb-false (length buffer) (length (y .1)) t, h .3, ap length q))
+    (λ t. judges-done y))

@@ -5,3 +5,4 @@ pub mod Answer
 pub mod Faults
 pub mod Stretch
 pub mod Filled
+pub mod Counting

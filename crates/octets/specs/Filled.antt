@@ -1,10 +1,12 @@
 -- What a lent buffer holds afterwards.
-use Prim.Native.Nat.{ℕ}
-use mathlib.Core.List.{List, _++_}
+use Prim.Native.Nat.{ℕ, _<_}
+use mathlib.Core.Path.{_≡_}
+use mathlib.Core.List.{List, [], _∷_, _++_}
 use lib.Dec.{ltb}
 use lib.ListN.{length, drop}
 use Rattle.octets.specs.Choice.{if_then_else_}
 use Rattle.octets.specs.Answer.{Answer, accepted, refused}
+use Rattle.octets.specs.Faults.{Fault, fault}
 
 -- the octets fill the front of the buffer, and the rest of it is kept
 abbrev pub filled : List ℕ → List ℕ → List ℕ
@@ -27,3 +29,7 @@ leaving answer left = record { answer = answer; left = left }
 -- 13 where the lent buffer is shorter than the octets that are to fill its front
 abbrev pub roomFor : {A : Type 0} → List ℕ → A × List ℕ → Answer (A × List ℕ)
 roomFor buffer x = if ltb (length buffer) (length (x .1)) then refused 13 0 else accepted x
+
+-- the fault of 13, last of all: there are octets to write, and the lent buffer is shorter
+abbrev pub roomFault : {A : Type 0} → Answer (A × List ℕ) → List ℕ → Fault
+roomFault {A} x buffer = fault 13 0 ((a : A) × (octets : List ℕ) × (x ≡ accepted (a, octets)) × (length buffer < length octets))

@@ -1,0 +1,50 @@
+-- The writer takes circuit number, type, fixed octets, up to two variable contents (an unused one is empty) and the optional run without its closing 0.
+-- The order is the paper's: 9, 3, 10, 11, 12, 2, 13.
+use Prim.Native.Nat.{ℕ, _/_, _%_}
+use mathlib.Core.List.{List, [], _∷_}
+use lib.Dec.{ltb}
+use Rattle.octets.specs.Choice.{if_then_else_}
+use Rattle.octets.specs.Answer.{Answer, accepted, refused, _then_, unplaced}
+use Rattle.octets.specs.Filled.{Done, done, roomFor}
+use Rattle.layout.specs.declared.Row.{Row}
+use Rattle.layout.specs.declared.Row.the-variants.{Has, Unknown}
+use Rattle.writing.specs.Write.{Order, order, writtenOf}
+use Rattle.writing.specs.Compact.{partOf}
+use Rattle.isup.specs.declared.Message.{Message}
+use Rattle.isup.specs.Table.{shapeOf}
+use Rattle.isup.specs.Read.{readOf}
+
+-- the circuit number: low eight bits first, then high four bits, the spare bits 0
+abbrev pub headOf : ℕ → List ℕ
+headOf circuit = circuit % 256 ∷ circuit / 256 ∷ []
+
+-- what is to be written of a message; ISUP has no third variable part
+abbrev pub orderOf : ℕ → ℕ → List ℕ → List ℕ → List ℕ → List ℕ → Order
+orderOf circuit kind fixed first second run = order (headOf circuit) kind fixed first second [] run
+
+-- 3 for a type that is not in the table
+abbrev pub ofShape : Row → Order → Answer (ℕ × List ℕ)
+ofShape (Has s) o = writtenOf s 268 o
+ofShape Unknown o = refused 3 0
+
+-- 9 for a circuit number above 4095; a type is an octet, so 3 above 255
+unfoldable pub writeIn : ℕ → ℕ → List ℕ → List ℕ → List ℕ → List ℕ → Answer (ℕ × List ℕ)
+writeIn circuit kind fixed first second run =
+    if ltb 4095 circuit then refused 9 0
+    else (if ltb 255 kind then refused 3 0
+    else ofShape (shapeOf kind) (orderOf circuit kind fixed first second run))
+
+-- all that writing does: how many octets were written, or the refusal, 13 last; and the buffer afterwards
+unfoldable pub writeOf : ℕ → ℕ → List ℕ → List ℕ → List ℕ → List ℕ → List ℕ → Done ℕ
+writeOf circuit kind fixed first second run buffer = done buffer (writeIn circuit kind fixed first second run then roomFor buffer)
+
+-- what a message says, written again
+abbrev pub againIn : List ℕ → Message → Answer (ℕ × List ℕ)
+againIn m x = writeIn (x .circuit) (x .kind) (partOf m (x .parts .fixed)) (partOf m (x .parts .first)) (partOf m (x .parts .second)) (partOf m (x .parts .optional))
+
+-- reading and writing again: the reader's numbers, then the writer's
+unfoldable pub compactIn : List ℕ → Answer (ℕ × List ℕ)
+compactIn m = unplaced (readOf m) then againIn m
+
+unfoldable pub compactOf : List ℕ → List ℕ → Done ℕ
+compactOf m buffer = done buffer (compactIn m then roomFor buffer)

@@ -1,0 +1,11 @@
+pub mod Pointers
+pub mod Storing
+pub mod Plain
+pub mod Outcome
+pub mod Judged
+pub mod Placed
+pub mod Back
+pub mod Again
+pub mod Shorter
+pub mod Determined
+pub mod Held
