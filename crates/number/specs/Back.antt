@@ -4,6 +4,7 @@ use mathlib.Core.Path.{_≡_, refl, sym, _∙_, ap}
 use mathlib.Core.List.{List, [], _∷_}
 use native.Mathlib.Omega.{arith}
 use lib.ListN.{length, getD, take, length-set}
+use Rattle.octets.specs.Octet.{AllOctets}
 use Rattle.octets.specs.Answer.{accepted}
 use Rattle.octets.specs.Filled.{filled}
 use Rattle.number.specs.declared.Number.{Number}
@@ -11,7 +12,7 @@ use Rattle.number.specs.Contents.{signalsIn}
 use Rattle.octets.specs.Filled.{leaving}
 use Rattle.number.specs.Read.{numberIn, readNumberOf}
 use Rattle.number.specs.Write.{writeNumberOf}
-use Rattle.number.specs.WellFormed.{Octets, spareless}
+use Rattle.number.specs.WellFormed.{spareless}
 use Rattle.octets.proofs.Filled.{sets-filled, take-filled}
 use Rattle.number.specs.Writing.{write-done}
 use Rattle.number.specs.ReadExactly.{read-number-exactly}
@@ -31,7 +32,7 @@ written-reads-back nature plan internal signals out n left buffer e room =
 
 -- the values and the signals that were read are written as the octets that were given, with spare bits 0
 pub read-writes-back : (contents buffer : List ℕ) (number : Number) (left out : List ℕ) →
-    Octets contents →
+    AllOctets contents →
     readNumberOf contents buffer ≡ leaving (accepted number) left →
     length contents ≤ length out →
     writeNumberOf (number .nature) (number .plan) (number .internal) (take (number .count) left) out

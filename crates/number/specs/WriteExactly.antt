@@ -15,9 +15,10 @@ use Rattle.octets.proofs.Choice.{decided}
 use Rattle.number.specs.declared.Number.{Number}
 use Rattle.number.specs.Halves.{packed}
 use Rattle.number.specs.Contents.{contentsOf}
+use Rattle.octets.specs.Octet.{AllOctets}
 use Rattle.octets.specs.Filled.{leaving}
 use Rattle.number.specs.Write.{anyAbove15, measured, octetsOf, writeNumberOf}
-use Rattle.number.specs.WellFormed.{WellFormedNumber, Octets, spareless, WrittenNumber}
+use Rattle.number.specs.WellFormed.{WellFormedNumber, spareless, WrittenNumber}
 use Rattle.number.specs.Laws.{by-halves, none-above, not-above, length-packed, packed-low, packed-high, octet-past}
 use Rattle.octets.proofs.Filled.{room-accepted, sets-filled}
 use Rattle.number.specs.Writing.{octets-there, write-done}
@@ -71,7 +72,7 @@ written-number nature plan internal signals a b d f g = record {
   spare = omega arith;
 }
   where
-    octet : Octets (contentsOf nature plan internal signals)
+    octet : AllOctets (contentsOf nature plan internal signals)
     octet zero = omega arith
     octet (suc zero) = omega arith
     octet (suc (suc j)) =
@@ -81,7 +82,7 @@ written-number nature plan internal signals a b d f g = record {
         omega arith
 
 -- the signals of a well formed number are at most 15
-well-formed-each : (contents : List ℕ) (number : Number) (signals : List ℕ) → Octets contents → WellFormedNumber contents number signals → (k : ℕ) → getD signals k 0 ≤ 15
+well-formed-each : (contents : List ℕ) (number : Number) (signals : List ℕ) → AllOctets contents → WellFormedNumber contents number signals → (k : ℕ) → getD signals k 0 ≤ 15
 well-formed-each contents number signals o w k =
     ⊎-elim
     (λ t.
@@ -94,7 +95,7 @@ well-formed-each contents number signals o w k =
     (decided (ltb k (number .count)))
 
 -- its values and signals are written as the same octets, but for the spare bits, 0
-well-formed-octets : (contents : List ℕ) (number : Number) (signals : List ℕ) → Octets contents → WellFormedNumber contents number signals → contentsOf (number .nature) (number .plan) (number .internal) signals ≡ spareless contents
+well-formed-octets : (contents : List ℕ) (number : Number) (signals : List ℕ) → AllOctets contents → WellFormedNumber contents number signals → contentsOf (number .nature) (number .plan) (number .internal) signals ≡ spareless contents
 well-formed-octets [] number signals o w = absurd (omega (arith, w .octets))
 well-formed-octets (first ∷ []) number signals o w = absurd (omega (arith, w .octets))
 well-formed-octets (first ∷ second ∷ octets) number signals o w =
@@ -122,7 +123,7 @@ well-formed-octets (first ∷ second ∷ octets) number signals o w =
     λ i. a i ∷ b i ∷ same i
 
 -- so there are octets for what was read
-pub well-formed-written : (contents : List ℕ) (number : Number) (signals : List ℕ) → Octets contents → WellFormedNumber contents number signals → octetsOf (number .nature) (number .plan) (number .internal) signals ≡ accepted (length contents, spareless contents)
+pub well-formed-written : (contents : List ℕ) (number : Number) (signals : List ℕ) → AllOctets contents → WellFormedNumber contents number signals → octetsOf (number .nature) (number .plan) (number .internal) signals ≡ accepted (length contents, spareless contents)
 well-formed-written contents number signals o w =
     octets-there (number .nature) (number .plan) (number .internal) signals (omega (arith, w .nature)) (omega (arith, w .plan)) (omega (arith, w .internal)) (omega (arith, w .few, w .count)) (not-above signals (well-formed-each contents number signals o w))
     ∙ (let e = well-formed-octets contents number signals o w in

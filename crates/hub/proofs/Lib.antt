@@ -1,0 +1,16 @@
+pub mod Searches
+pub mod Spans
+pub mod Writing
+pub mod Reading
+pub mod Given
+pub mod Meaning
+pub mod Judged
+pub mod Called
+pub mod Determined
+pub mod Local
+pub mod Legality
+pub mod Status
+pub mod Rules
+pub mod ReadBack
+pub mod Refutations
+pub mod Orders

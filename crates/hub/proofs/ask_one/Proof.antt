@@ -1,0 +1,32 @@
+use Rattle.hub.specs.Asks.{oneOf}
+use mathlib.Core.Path.{_≡_, sym, ap, _∙_}
+use borrow.Author.Tests.{ne-eqb, eq-eqb}
+use Rattle.hub.proofs.ask_one.Statement.{statement}
+use Rattle.hub.proofs.ask_one.Tie as tie
+
+returns : tie.Need-returns
+unfolding oneOf
+returns c = rw (c .match .keys1)
+
+returns-2 : tie.Need-returns-2
+unfolding oneOf
+returns-2 c = rw (c .match .keys2)
+
+returns-3 : tie.Need-returns-3
+unfolding oneOf
+returns-3 c = rw (c .match .keys3)
+
+returns-4 : tie.Need-returns-4
+unfolding oneOf
+returns-4 c = rw (c .match .keys4)
+
+returns-5 : tie.Need-returns-5
+unfolding oneOf
+returns-5 c = rw (c .match .keys5)
+
+returns-6 : tie.Need-returns-6
+unfolding oneOf
+returns-6 c = simp (ne-eqb _ _ (c .match .rest .1), ne-eqb _ _ (c .match .rest .0 .1), ne-eqb _ _ (c .match .rest .0 .0 .1), ne-eqb _ _ (c .match .rest .0 .0 .0 .1), ne-eqb _ _ (c .match .rest .0 .0 .0 .0 .1))
+
+pub ask-one-spec : {M : Type 1} → statement M
+ask-one-spec = tie.close (tie.spec returns returns-2 returns-3 returns-4 returns-5 returns-6)

@@ -1,0 +1,48 @@
+use Rattle.hub.proofs.Given.{grant-refused, grant-asked, ask-sound}
+use Rattle.hub.specs.Told.{verdictTold}
+use Rattle.hub.specs.Acts.{grantOf}
+use denote.Ref.{now}
+use mathlib.Core.Path.{sym, ap, _∙_}
+use borrow.Author.Tests.{ne-eqb, eq-eqb}
+use borrow.Author.Needs.{needs}
+use Rattle.hub.proofs.judge.Statement.{statement}
+use Rattle.hub.proofs.judge.Tie as tie
+
+returns : tie.Need-returns
+unfolding grantOf
+returns c = rw (ne-eqb _ _ (c .if1 .taken))
+
+returns-2 : tie.Need-returns-2
+unfolding grantOf
+returns-2 c = rw (eq-eqb _ _ (c .before .if1 .left), ne-eqb _ _ (c .if2 .taken))
+
+decode-requires : tie.Need-decode-requires
+decode-requires c κs = search needs
+
+enum-known-n : tie.Need-enum-known-n
+enum-known-n c = search needs
+
+enum-known-ask : tie.Need-enum-known-ask
+enum-known-ask c = search needs
+
+allow-requires : tie.Need-allow-requires
+allow-requires c κs = let a = c .before .before .before .before .before .before .before .before .before .args in (c .before .before .before .before .before .if1 .left, c .before .before .before .before .if2 .left, ask-sound (now (a .message)) _ (λ i. c .before .before .before .before .before .before .shared-slice-known3 .given i .fits) (sym (c .before .before .before .decode .ensures) ∙ ap verdictTold (c .before .ask .given .1)))
+
+returns-3 : tie.Need-returns-3
+returns-3 c = let a = c .before .before .before .before .before .before .before .before .before .args in grant-refused (now (a .states)) (now (a .owners)) (a .sender) (now (a .message)) (a .room) (c .before .before .before .before .before .if1 .left) (c .before .before .before .before .if2 .left) _ (c .before .before .before .decode .ensures) _ _ (c .before .n .given .1)
+
+returns-4 : tie.Need-returns-4
+returns-4 c = let a = c .before .before .before .before .before .before .before .before .before .before .args in c .allow .ensures ∙ grant-asked (now (a .states)) (now (a .owners)) (a .sender) (now (a .message)) (a .room) (c .before .before .before .before .before .before .if1 .left) (c .before .before .before .before .before .if2 .left) _ (c .before .before .before .before .decode .ensures) _ (c .before .before .ask .given .1)
+
+pub judge-spec : {M : Type 1} → statement M
+judge-spec =
+    tie.close
+    (tie.spec
+    returns
+    returns-2
+    decode-requires
+    enum-known-n
+    enum-known-ask
+    allow-requires
+    returns-3
+    returns-4)
