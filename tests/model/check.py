@@ -1,0 +1,98 @@
+"""check.py: the model against the paper's samples, and the generator against the list of numbers to reach."""
+
+import sys
+
+sys.dont_write_bytecode = True
+import model
+from generate import Generator, generate, coverage, table, STORED_COUNT, STORED_SEED, TYPES
+from samples import SAMPLES
+
+# The numbers that each request can give. 16 is out of reach: the desk's tables have 4096 octets each.
+READER = [1, 2, 3, 4, 5, 6, 7, 8]
+REACHED = {
+    "shape": [3],
+    "read": READER,
+    "write": [9, 3, 10, 11, 12, 2, 13],
+    "compact": READER + [12, 13],
+    "find": READER + [11, 15],
+    "number": [14, 13],
+    "dial": [14, 13],
+    "own": [],
+    "set": [],
+    "act": READER + [17, 14, 18, 19, 20, 21, 13],
+    "rows": [],
+}
+
+faults = []
+
+
+def check(truth, what):
+    if not truth:
+        faults.append(what)
+
+
+def samples():
+    desk = model.Desk()
+    for request, wanted in SAMPLES:
+        got = desk.answer(request.encode()).decode()
+        check(got == wanted, "%s\n  answers %s\n  wanted  %s" % (request, got, wanted))
+    check(not any(desk.states) and not any(desk.owners), "the samples leave the tables as at the start")
+
+
+def lines():
+    """Ends of lines, and the limits of a line's fields."""
+    for data, wanted in (
+            (b"", b""),
+            (b"\n", b"bad line\n"),
+            (b"\r\n", b"bad line\n"),
+            (b"shape 13", b"fixed 0 variable 0 optional no\n"),
+            (b"shape 13\r\nshape 00\n", b"fixed 0 variable 0 optional no\nrefused 3\n"),
+            (b"shape 13\r\r\n", b"bad line\n"),
+            (b"shape 13\r", b"bad line\n"),
+            (b"shape 13 \n shape 13\nshape  13\n", b"bad line\n" * 3),
+            (b"own 0000000000 0000004095 0000000255\n", b"ok\n"),
+            (b"own 00000000000 4095 255\n", b"bad line\n"),
+            (b"own 3 2 1\nown 0 4096 1\nown 0 0 256\nset 0 0 256\n", b"bad line\n" * 4),
+            (b"act 4294967295 230113 3\nact 4294967296 230113 3\n", b"refused 19\nbad line\n"),
+            (b"read " + b"00" * 1024 + b"\nread " + b"00" * 1025 + b"\n", b"refused 2\nbad line\n"),
+            (b"read -\nread \nread\n", b"refused 1\nbad line\nbad line\n"),
+            (b"compact 01000900 1024\ncompact 01000900 1025\n", b"octets 01000900\nbad line\n"),
+            (b"find 20 0100090120000000 -\nfind 00 0100090120000000 -\n", b"message -\nrefused 15\n"),
+            (b"find 20 230113 200141\nfind 20 0100090120000000 200141\n", b"defaults 41\nmessage -\n"),
+            (b"find 20 0100090120000000 2001\n", b"refused 11\n")):
+        got = model.answers(data)
+        check(got == wanted, "%r\n  answers %r\n  wanted  %r" % (data[:60], got, wanted))
+    for digits, wanted in ((6, b"refused 10\n"), (7, b"bad line\n")):
+        line = b"write " + b"1".zfill(digits) + b" 0c" + (b" " + b"00" * 1021) * 4 + b" 1024"
+        check(len(line) == 8186 + digits, "a line of 8192 octets and one more")
+        check(model.answers(line + b"\r\n") == wanted, "a line of %d octets" % len(line))
+
+
+def shapes():
+    """The table of types: 24 of them."""
+    check(len(TYPES) == 24, "24 types")
+
+
+def reached():
+    data = generate(STORED_COUNT, STORED_SEED)
+    check(data == generate(STORED_COUNT, STORED_SEED), "the same for the same seed")
+    check(len(model.lines(data)) == STORED_COUNT, "as many lines as asked for")
+    generator = Generator(STORED_SEED)
+    for _ in range(STORED_COUNT):
+        generator.next()
+    check(generator.rounds > 1, "every corner comes")
+    counts = coverage(data)
+    print(table(counts))
+    for kind, numbers in REACHED.items():
+        for outcome in ["accepted", "bad line"] + numbers:
+            check(counts[kind, outcome], "%s: %s is reached" % (kind, outcome))
+        for (other, outcome), count in counts.items():
+            check(other != kind or outcome in ["accepted", "bad line"] + numbers, "%s: %s is given" % (kind, outcome))
+
+
+for each in (samples, lines, shapes, reached):
+    each()
+for fault in faults:
+    print("FAULT: " + fault)
+print("%d faults" % len(faults))
+sys.exit(1 if faults else 0)

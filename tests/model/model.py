@@ -1,0 +1,533 @@
+"""A model of the desk program, written from the paper's rules.
+
+Each function below answers with a value, or with the number of the refusal (an int).
+The checks of a function stand in the paper's order.
+
+As a program, it answers standard input on standard output, as the desk does.
+"""
+
+import sys
+from typing import NamedTuple
+
+CIRCUITS = 4096
+SHORTEST, LONGEST = 3, 268
+
+
+def refused(answer):
+    """A refusal is its number alone."""
+    return isinstance(answer, int)
+
+
+# ---------------------------------------------------------------- the shapes of the types
+
+class Shape(NamedTuple):
+    fixed: int
+    variable: int
+    optional: bool
+
+
+SHAPES = {}
+for _types, _fixed, _variable, _optional in (
+        ("01", 5, 1, True),
+        ("02 0C", 0, 1, True),
+        ("05", 1, 0, False),
+        ("06 07", 2, 0, True),
+        ("09 10", 0, 0, True),
+        ("0D 0E 2C", 1, 0, True),
+        ("12 13 14 15 16", 0, 0, False),
+        ("17 29 2A", 0, 1, False),
+        ("18 19 1A 1B", 1, 1, False),
+        ("2B", 0, 2, False)):
+    for _type in bytes.fromhex(_types):
+        SHAPES[_type] = Shape(_fixed, _variable, _optional)
+
+IAM, REL, RLC = 0x01, 0x0C, 0x10
+RSC, BLO, UBL, BLA, UBA = 0x12, 0x13, 0x14, 0x15, 0x16
+GRS, CGB, CGU, CGBA, CGUA, GRA = 0x17, 0x18, 0x19, 0x1A, 0x1B, 0x29
+
+
+def shape(kind):
+    """One plain question with one answer for all 256 octets."""
+    return SHAPES.get(kind, 3)
+
+
+# ---------------------------------------------------------------- the reader
+
+class Message(NamedTuple):
+    circuit: int
+    kind: int
+    fixed: bytes
+    variable: tuple     # the contents of each variable parameter, in pointer order
+    optional: bytes     # the optional run without its closing 0
+
+
+def closing(message, at):
+    """Where the 0 stands that closes the run beginning at `at`; None where there is none before L."""
+    while at < len(message):
+        if message[at] == 0:
+            return at
+        if at + 1 == len(message):
+            return None
+        at = at + 2 + message[at + 1]
+    return None
+
+
+def share(one, other):
+    """Whether two stretches, each (first octet, octet past the last), share an octet."""
+    return max(one[0], other[0]) < min(one[1], other[1])
+
+
+def read(message):
+    """1, 2, 3, 4; each variable pointer in turn 5 then 6; the optional pointer 5 then 7; then 8."""
+    length = len(message)
+    if length < SHORTEST:
+        return 1
+    if length > LONGEST:
+        return 2
+    row = shape(message[2])
+    if refused(row):
+        return row
+    pointers = 3 + row.fixed
+    end = pointers + row.variable + (1 if row.optional else 0)
+    if end > length:
+        return 4
+
+    parts = []
+    contents = []
+    for place in range(pointers, pointers + row.variable):
+        # A pointer at octet p with value v points at p+v; a variable pointer may not be 0.
+        target = place + message[place]
+        if message[place] == 0 or target < end or target >= length:
+            return 5
+        past = target + 1 + message[target]
+        if past > length:
+            return 6
+        parts.append((target, past))
+        contents.append(message[target + 1:past])
+
+    run = b""
+    if row.optional and message[end - 1] != 0:
+        target = end - 1 + message[end - 1]
+        if target < end or target >= length:
+            return 5
+        zero = closing(message, target)
+        if zero is None:
+            return 7
+        parts.append((target, zero + 1))
+        run = message[target:zero]
+
+    # The parts share no octet with one another.
+    for i in range(len(parts)):
+        for j in range(i):
+            if share(parts[i], parts[j]):
+                return 8
+
+    # The high half of octet 1 is spare: ignored in reading.
+    circuit = message[0] + 256 * (message[1] % 16)
+    return Message(circuit, message[2], message[3:pointers], tuple(contents), run)
+
+
+# ---------------------------------------------------------------- the optional run
+
+def parameters(run):
+    """The (name, contents) of a run without closing 0; 11: a name 0, or a parameter that passes its end."""
+    found = []
+    at = 0
+    while at < len(run):
+        if run[at] == 0 or at + 2 > len(run):
+            return 11
+        past = at + 2 + run[at + 1]
+        if past > len(run):
+            return 11
+        found.append((run[at], run[at + 2:past]))
+        at = past
+    return found
+
+
+# ---------------------------------------------------------------- the writer
+
+def write(circuit, kind, fixed, first, second, optional, room):
+    """9, 3, 10, 11, 12, 2, 13."""
+    if circuit > 4095:
+        return 9
+    row = shape(kind)
+    if refused(row):
+        return row
+    # Fixed octets of wrong count, or contents for a part the type lacks.
+    if len(fixed) != row.fixed:
+        return 10
+    if first and row.variable < 1 or second and row.variable < 2 or optional and not row.optional:
+        return 10
+    found = parameters(optional)
+    if refused(found):
+        return found
+
+    # Variable parameters in pointer order right after the pointers, the optional part next.
+    contents = (first, second)[:row.variable]
+    pointers = 3 + row.fixed
+    place = pointers
+    target = pointers + row.variable + (1 if row.optional else 0)
+    numbers = []                # every length and pointer octet that will be written
+    for each in contents:
+        numbers += [target - place, len(each)]
+        place += 1
+        target += 1 + len(each)
+    if optional:
+        numbers.append(target - place)
+    if any(value > 255 for value in numbers):
+        return 12
+
+    octets = bytearray((circuit % 256, circuit // 256, kind))
+    octets += fixed
+    octets += bytes(numbers[0:2 * row.variable:2])
+    if row.optional:
+        octets.append(numbers[-1] if optional else 0)
+    for each in contents:
+        octets.append(len(each))
+        octets += each
+    if optional:
+        octets += optional + b"\0"
+    if len(octets) > LONGEST:
+        return 2
+    if len(octets) > room:
+        return 13
+    return bytes(octets)
+
+
+def compact(message, room):
+    """Reading and writing again: the reader's numbers, then 12 and 13."""
+    got = read(message)
+    if refused(got):
+        return got
+    first, second = (got.variable + (b"", b""))[:2]
+    return write(got.circuit, got.kind, got.fixed, first, second, got.optional, room)
+
+
+# ---------------------------------------------------------------- finding
+
+def find(name, message, defaults):
+    """The reader's numbers, 11 for the defaults, 15. The message comes first, the first match in wire order."""
+    got = read(message)
+    if refused(got):
+        return got
+    standing = parameters(defaults)
+    if refused(standing):
+        return standing
+    if name == 0:
+        return 15
+    for holder, run in (("message", parameters(got.optional)), ("defaults", standing)):
+        for each, contents in run:
+            if each == name:
+                return holder, contents
+    return 15
+
+
+# ---------------------------------------------------------------- called party numbers
+
+class Number(NamedTuple):
+    nature: int
+    plan: int
+    internal: int
+    signals: bytes      # one per octet
+
+
+def number(contents, room):
+    """14, then 13."""
+    if len(contents) < 2:
+        return 14
+    odd = contents[0] // 128
+    signals = []
+    for octet in contents[2:]:
+        signals += [octet % 16, octet // 16]        # low half of an octet first
+    if odd:
+        # Odd with no signals; filler not 0.
+        if not signals or signals.pop() != 0:
+            return 14
+    if len(signals) > 30:
+        return 14
+    if len(signals) > room:
+        return 13
+    return Number(contents[0] % 128, contents[1] // 16 % 8, contents[1] // 128, bytes(signals))
+
+
+def dial(nature, plan, internal, signals, room):
+    """14, then 13."""
+    if nature > 127 or plan > 7 or internal > 1 or len(signals) > 30 or any(each > 15 for each in signals):
+        return 14
+    odd = len(signals) % 2
+    halves = list(signals) + [0] * odd              # an odd count leaves a high half as filler 0
+    octets = [128 * odd + nature, 128 * internal + 16 * plan]
+    for i in range(0, len(halves), 2):
+        octets.append(halves[i] + 16 * halves[i + 1])
+    if len(octets) > room:
+        return 13
+    return bytes(octets)
+
+
+# ---------------------------------------------------------------- the hub
+
+BUSY, MAINTENANCE, HARDWARE = 1, 2, 4
+LEGAL = (0, 1, 2, 3, 4, 6)
+
+
+class Ask(NamedTuple):
+    reach: int          # the range r; 0 for one circuit
+    marks: tuple        # for each of m to m+r, whether the rule changes it
+    rule: object        # the new state of a marked circuit, from the old one
+    answer: bytes
+
+
+def plain(circuit, kind, fixed=b"", first=b""):
+    """A message of an answer: it carries m and has the compact form."""
+    return write(circuit, kind, fixed, first, b"", b"", LONGEST)
+
+
+def ask(message):
+    """What a message asks of the circuits: 17, then 14."""
+    m = message.circuit
+    if message.kind == IAM:
+        return Ask(0, (True,), lambda state: BUSY, b"")
+    if message.kind == REL:
+        return Ask(0, (True,), lambda state: state & ~BUSY, plain(m, RLC))
+    if message.kind == RSC:
+        return Ask(0, (True,), lambda state: 0, plain(m, RLC))
+    if message.kind == BLO:
+        return Ask(0, (True,), lambda state: state | MAINTENANCE, plain(m, BLA))
+    if message.kind == UBL:
+        return Ask(0, (True,), lambda state: state & ~MAINTENANCE, plain(m, UBA))
+    if message.kind == GRS:
+        contents = message.variable[0]
+        # Range from 1 to 31, contents exactly r's octet.
+        if len(contents) != 1 or not 1 <= contents[0] <= 31:
+            return 14
+        r = contents[0]
+        return Ask(r, (True,) * (r + 1), lambda state: 0,
+                   plain(m, GRA, first=bytes([r]) + bytes(r // 8 + 1)))
+    if message.kind in (CGB, CGU):
+        kind = message.fixed[0] % 4                 # the other bits are spare
+        contents = message.variable[0]
+        if kind > 1:
+            return 14
+        # Range 1 to 255, then exactly r/8+1 status octets.
+        if len(contents) < 1 or contents[0] < 1 or len(contents) != 1 + contents[0] // 8 + 1:
+            return 14
+        r, status = contents[0], contents[1:]
+        # Status bit n, low bit first, stands for circuit m+n; bits past r are spare.
+        marks = tuple(status[n // 8] >> (n % 8) & 1 == 1 for n in range(r + 1))
+        clean = bytearray(r // 8 + 1)
+        for n in range(r + 1):
+            if marks[n]:
+                clean[n // 8] |= 1 << (n % 8)
+        if message.kind == CGB:
+            rule = (lambda state: state | MAINTENANCE) if kind == 0 else \
+                   (lambda state: (state | HARDWARE) & ~BUSY)       # hardware also ends busy
+            reply = CGBA
+        else:
+            rule = (lambda state: state & ~MAINTENANCE) if kind == 0 else \
+                   (lambda state: state & ~HARDWARE)
+            reply = CGUA
+        return Ask(r, marks, rule, plain(m, reply, bytes([kind]), bytes([r]) + bytes(clean)))
+    return 17
+
+
+def act(states, owners, sender, message, room):
+    """16, the reader's, 17, 14, 18, 19, 20, 21, 13. Accepted: the answer and the new states of m to m+r."""
+    if len(states) != CIRCUITS or len(owners) != CIRCUITS:
+        return 16
+    got = read(message)
+    if refused(got):
+        return got
+    asked = ask(got)
+    if refused(asked):
+        return asked
+    m = got.circuit
+    if m + asked.reach > 4095:
+        return 18
+    named = range(m, m + asked.reach + 1)           # marked or not
+    if sender == 0 or any(owners[c] != sender for c in named):
+        return 19
+    if any(states[c] not in LEGAL for c in named):
+        return 20
+    if got.kind == IAM and states[m] != 0:
+        return 21
+    if len(asked.answer) > room:
+        return 13
+    rows = bytes(asked.rule(states[c]) if asked.marks[c - m] else states[c] for c in named)
+    return asked.answer, rows
+
+
+# ---------------------------------------------------------------- the fields of a line
+
+class BadLine(Exception):
+    """A line that is no request."""
+
+
+DIGITS = b"0123456789"
+HEX = b"0123456789abcdef"
+LONGEST_LINE = 8192
+MOST_OCTETS = 1024
+
+
+def to(most):
+    """A field that is a number: decimal digits alone, at most ten of them, up to `most`."""
+    def field(word):
+        if not 1 <= len(word) <= 10 or any(each not in DIGITS for each in word):
+            raise BadLine
+        value = 0
+        for each in word:
+            value = 10 * value + DIGITS.index(each)
+        if value > most:
+            raise BadLine
+        return value
+    return field
+
+
+def octets(word):
+    """A field of octets: two hexadecimal digits each, either case; `-` for none; up to 1024."""
+    if word == b"-":
+        return b""
+    digits = word.lower()
+    if not digits or len(digits) % 2 or len(digits) > 2 * MOST_OCTETS or any(each not in HEX for each in digits):
+        raise BadLine
+    return bytes(16 * HEX.index(digits[i]) + HEX.index(digits[i + 1]) for i in range(0, len(digits), 2))
+
+
+def octet(word):
+    """A type or a parameter name: two hexadecimal digits."""
+    if len(word) != 2:
+        raise BadLine
+    return octets(word)[0]
+
+
+ANY = to(4294967295)
+ROOM = to(1024)
+CIRCUIT = to(4095)
+SMALL = to(255)
+
+FIELDS = {
+    b"shape": (octet,),
+    b"read": (octets,),
+    b"write": (ANY, octet, octets, octets, octets, octets, ROOM),
+    b"compact": (octets, ROOM),
+    b"find": (octet, octets, octets),
+    b"number": (octets, ROOM),
+    b"dial": (ANY, ANY, ANY, octets, ROOM),
+    b"own": (CIRCUIT, CIRCUIT, SMALL),
+    b"set": (CIRCUIT, CIRCUIT, SMALL),
+    b"act": (ANY, octets, ROOM),
+    b"rows": (CIRCUIT, CIRCUIT),
+}
+
+
+def request(line):
+    """What a line asks: the request's word and its values. Words stand apart by one space."""
+    if len(line) > LONGEST_LINE:
+        raise BadLine
+    words = line.split(b" ")
+    fields = FIELDS.get(words[0])
+    if fields is None or len(words) != 1 + len(fields):
+        raise BadLine
+    values = [field(word) for field, word in zip(fields, words[1:])]
+    if words[0] in (b"own", b"set", b"rows") and values[0] > values[1]:
+        raise BadLine
+    return words[0].decode(), values
+
+
+def shown(these):
+    return these.hex() or "-"
+
+
+# ---------------------------------------------------------------- the desk
+
+class Desk:
+    """One table of states and one of owners, all 0 at the start."""
+
+    def __init__(self):
+        self.states = bytearray(CIRCUITS)
+        self.owners = bytearray(CIRCUITS)
+
+    def answer(self, line):
+        """The answer line, without LF. The line comes without its LF and without a CR right before that LF."""
+        try:
+            word, values = request(line)
+        except BadLine:
+            return b"bad line"
+        answer = getattr(self, "on_" + word)(*values)
+        return ("refused %d" % answer if refused(answer) else answer).encode()
+
+    def on_shape(self, kind):
+        row = shape(kind)
+        if refused(row):
+            return row
+        return "fixed %d variable %d optional %s" % (row.fixed, row.variable, "yes" if row.optional else "no")
+
+    def on_read(self, message):
+        got = read(message)
+        if refused(got):
+            return got
+        first, second = (got.variable + (b"", b""))[:2]
+        return "circuit %d type %02x fixed %s first %s second %s optional %s" % (
+            got.circuit, got.kind, shown(got.fixed), shown(first), shown(second), shown(got.optional))
+
+    def on_write(self, *values):
+        written = write(*values)
+        return written if refused(written) else "octets " + shown(written)
+
+    def on_compact(self, message, room):
+        written = compact(message, room)
+        return written if refused(written) else "octets " + shown(written)
+
+    def on_find(self, name, message, defaults):
+        found = find(name, message, defaults)
+        return found if refused(found) else found[0] + " " + shown(found[1])
+
+    def on_number(self, contents, room):
+        got = number(contents, room)
+        if refused(got):
+            return got
+        return "nature %d plan %d internal %d signals %s" % (
+            got.nature, got.plan, got.internal, shown(got.signals))
+
+    def on_dial(self, *values):
+        written = dial(*values)
+        return written if refused(written) else "octets " + shown(written)
+
+    def on_own(self, first, last, sender):
+        self.owners[first:last + 1] = bytes([sender]) * (last + 1 - first)
+        return "ok"
+
+    def on_set(self, first, last, state):
+        self.states[first:last + 1] = bytes([state]) * (last + 1 - first)
+        return "ok"
+
+    def on_act(self, sender, message, room):
+        done = act(self.states, self.owners, sender, message, room)
+        if refused(done):
+            return done
+        answer, rows = done
+        if rows:
+            m = read(message).circuit
+            self.states[m:m + len(rows)] = rows
+        return "answer " + shown(answer)
+
+    def on_rows(self, first, last):
+        return "rows " + shown(bytes(self.states[first:last + 1]))
+
+
+def lines(data):
+    """The lines of an input. A last line without LF is a line; nothing after the last LF is none."""
+    pieces = data.split(b"\n")
+    last = pieces.pop()
+    # A CR right before the LF is no part of the line.
+    found = [piece[:-1] if piece.endswith(b"\r") else piece for piece in pieces]
+    return found + [last] if last else found
+
+
+def answers(data):
+    """What the desk writes for a whole input: one line for each line."""
+    desk = Desk()
+    return b"".join(desk.answer(line) + b"\n" for line in lines(data))
+
+
+if __name__ == "__main__":
+    sys.stdout.buffer.write(answers(sys.stdin.buffer.read()))

@@ -1,0 +1,93 @@
+"""The paper's sample messages and sentences, each as requests with the answers that the paper gives.
+
+The list begins by giving every circuit to sender 1 and ends with the tables as they were at the start.
+"""
+
+REL_253 = "ab" * 253
+REL_254 = "ab" * 254
+RUN = "200141"
+
+SAMPLES = [
+    # Where the hub is meant, the sender owns the circuits and rows are 0.
+    ("own 0 4095 1", "ok"),
+
+    # 05 00 17 01 01 03: accepted, circuits 5 to 8; answer 05 00 29 01 02 03 00.
+    ("act 1 050017010103 7", "answer 05002901020300"),
+    ("set 4 9 1", "ok"),
+    ("act 1 05 00 17 01 01 03 7", "bad line"),
+    ("act 1 050017010103 6", "refused 13"),
+    ("rows 4 9", "rows 010101010101"),
+    ("act 1 050017010103 1024", "answer 05002901020300"),
+    ("rows 4 9", "rows 010000000001"),
+    ("read 050017010103", "circuit 5 type 17 fixed - first 03 second - optional -"),
+    ("set 0 4095 0", "ok"),
+
+    # 23 01 13: circuit 291; answer 23 01 15.
+    ("read 230113", "circuit 291 type 13 fixed - first - second - optional -"),
+    ("act 1 230113 3", "answer 230115"),
+    ("rows 290 292", "rows 000200"),
+    ("set 0 4095 0", "ok"),
+
+    # 08 00 18 00 01 03 09 01 02: marks 8 and 17; answer 08 00 1A 00 01 03 09 01 02.
+    ("act 1 080018000103090102 9", "answer 08001a000103090102"),
+    ("rows 7 18", "rows 000200000000000000000200"),
+    ("set 0 4095 0", "ok"),
+
+    # 01 00 0C 02 00 02 80 90: answer 01 00 10 00.
+    ("act 1 01000C0200028090 4", "answer 01001000"),
+    ("rows 0 2", "rows 000000"),
+
+    # 01 00 01 00 60 01 0A 00 02 00 04 03 10 21 43: number 1234.
+    ("read 0100010060010A0002000403102143",
+     "circuit 1 type 01 fixed 0060010a00 first 03102143 second - optional -"),
+    ("number 03102143 4", "nature 3 plan 1 internal 0 signals 01020304"),
+    ("act 1 0100010060010A0002000403102143 0", "answer -"),
+    ("rows 0 2", "rows 000100"),
+    ("set 0 4095 0", "ok"),
+
+    # 01 00 09 01 00: accepted; compact 01 00 09 00.
+    ("read 0100090100", "circuit 1 type 09 fixed - first - second - optional -"),
+    ("compact 0100090100 4", "octets 01000900"),
+
+    # 01 00 09 01 20 01 41 00: one optional, name 20, contents 41; the same without last octet: 7.
+    ("read 0100090120014100", "circuit 1 type 09 fixed - first - second - optional 200141"),
+    ("find 20 0100090120014100 -", "message 41"),
+    ("find 21 0100090120014100 -", "refused 15"),
+    ("read 01000901200141", "refused 7"),
+
+    # 6, 5, 8, 5.
+    ("read 01000C0200038090", "refused 6"),
+    ("read 01000C0100", "refused 5"),
+    ("read 01000C0201010000", "refused 8"),
+    ("read 01000901", "refused 5"),
+    ("act 1 01000C0200038090 1024", "refused 6"),
+    ("act 1 01000C0100 1024", "refused 5"),
+    ("act 1 01000C0201010000 1024", "refused 8"),
+
+    # E0 0F 17 01 01 1F: circuits 4064 to 4095.
+    ("set 4063 4095 2", "ok"),
+    ("act 1 E00F1701011F 1024", "answer e00f2901051f00000000"),
+    ("rows 4062 4095", "rows 0002" + "00" * 32),
+    ("set 0 4095 0", "ok"),
+
+    # FF 0F 17 01 01 01: 18.
+    ("act 1 FF0F17010101 1024", "refused 18"),
+    ("read FF0F17010101", "circuit 4095 type 17 fixed - first 01 second - optional -"),
+
+    # REL with 253 octets and a non-empty optional run puts 255 in the last pointer; 254 gives 12;
+    # 254 with no optional run is fine.
+    ("write 1 0C - %s - %s 1024" % (REL_253, RUN), "octets 01000c02fffd" + REL_253 + RUN + "00"),
+    ("write 1 0C - %s - %s 1024" % (REL_254, RUN), "refused 12"),
+    ("write 1 0C - %s - - 1024" % REL_254, "octets 01000c0200fe" + REL_254),
+
+    # Number contents 83 10 21 03 are 123, and 03 10 21 43 are 1234; both are written so.
+    ("number 83102103 3", "nature 3 plan 1 internal 0 signals 010203"),
+    ("number 03102143 3", "refused 13"),
+    ("dial 3 1 0 010203 4", "octets 83102103"),
+    ("dial 3 1 0 01020304 4", "octets 03102143"),
+
+    # The tables as at the start.
+    ("own 0 4095 0", "ok"),
+    ("set 0 4095 0", "ok"),
+    ("rows 0 0", "rows 00"),
+]
