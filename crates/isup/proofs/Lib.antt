@@ -7,3 +7,4 @@ pub mod Rewritten
 pub mod WriteBack
 pub mod CompactAgain
 pub mod Rel
+pub mod Refutations

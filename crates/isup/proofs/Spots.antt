@@ -7,6 +7,8 @@ use mathlib.Core.Logic.{_⊎_, inl, inr, ⊎-elim}
 use native.Mathlib.Omega.{arith}
 use lib.Dec.{ltb}
 use lib.ListN.{length}
+use denote.Ref.{RefT, now}
+use Rattle.octets.specs.Stretch.{Stretch}
 use Rattle.octets.specs.Choice.{if_then_else_}
 use Rattle.octets.specs.Answer.{Answer, accepted, refused, _then_}
 use Rattle.octets.proofs.Choice.{chosen}
@@ -18,7 +20,7 @@ use Rattle.layout.specs.Run.{stepAt, isRun, seeks, namedFrom}
 use Rattle.layout.proofs.Runs.{named-inside}
 use Rattle.isup.specs.declared.Message.{Message}
 use Rattle.isup.specs.Read.{readOf}
-use Rattle.isup.specs.Find.{Spot, spot, namedIn, inDefaults, inMessage, soughtIn, locateOf, heldBy}
+use Rattle.isup.specs.Find.{Spot, spot, namedIn, inDefaults, inMessage, soughtIn, locateOf, startOf, lengthOf, heldBy}
 
 -- a search that succeeds: the defaults are a run, the name is an octet, and the message has it, or else the defaults
 pub record Sought (m : List ℕ) (run : Span) (d : List ℕ) (name : ℕ) (s : Spot) : Type 0 where
@@ -81,3 +83,7 @@ held-by-message {A} m name x y = go (locateOf m [] name) refl
         (λ q. simp (q .0))
         (λ q. absurd (none-in-empty m name (s .start) (s .len) (e ∙ ap accepted (λ i. record { holder = q .0 i; start = s .start; len = s .len }))))
         (g .2 .found)
+
+-- with no defaults, what is found is a stretch of the message
+pub found-in : (message none : RefT (List ℕ)) (name : ℕ) (part : RefT (List ℕ)) → Stretch (heldBy (locateOf (now message) [] name) message none) (startOf (locateOf (now message) [] name)) (lengthOf (locateOf (now message) [] name)) part → Stretch message (startOf (locateOf (now message) [] name)) (lengthOf (locateOf (now message) [] name)) part
+found-in message none name part s = rw (held-by-message (now message) name) at s

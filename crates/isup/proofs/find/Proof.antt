@@ -1,5 +1,4 @@
-use denote.Ref.{now}
-use Rattle.isup.proofs.Spots.{held-by-message}
+use Rattle.isup.proofs.Spots.{found-in}
 use borrow.Author.Needs.{needs}
 use Rattle.isup.proofs.find.Statement.{statement}
 use Rattle.isup.proofs.find.Tie as tie
@@ -17,7 +16,7 @@ find-or-default-requires : tie.Need-find-or-default-requires
 find-or-default-requires c κs = search needs
 
 returns : tie.Need-returns
-returns c = let a = c .before .before .before .args in rw (held-by-message (now (a .message)) (a .name)) at (c .find-or-default .ensures)
+returns c = let a = c .before .before .before .args in found-in (a .message) _ (a .name) _ (c .find-or-default .ensures)
 
 pub find-spec : {M : Type 1} → statement M
 find-spec =

@@ -1,5 +1,6 @@
 use mathlib.Core.Path.{_≡_, refl, sym, _∙_, ap}
 use denote.Ref.{now}
+use native.Mathlib.Omega.{arith}
 use borrow.Author.Tests.{lt-ltb, le-ltb}
 use Rattle.isup.specs.Write.{writeIn, writeOf}
 use Rattle.isup.proofs.Rewritten.{write-unknown, write-has}
@@ -9,11 +10,11 @@ use Rattle.isup.proofs.write.Tie as tie
 
 returns : tie.Need-returns
 unfolding writeOf writeIn
-returns c = rw (lt-ltb _ _ (c .if1 .taken)) refl
+returns c = rw (lt-ltb 4095 (c .before .before .before .before .before .before .args .circuit) (omega arith)) refl
 
 returns-2 : tie.Need-returns-2
 unfolding writeOf writeIn
-returns-2 c = rw (le-ltb _ _ (c .before .if1 .left), lt-ltb _ _ (c .if2 .taken)) refl
+returns-2 c = let a = c .before .before .before .before .before .before .before .args in rw (le-ltb 4095 (a .circuit) (omega arith), lt-ltb 255 (a .kind) (omega arith)) refl
 
 cast-octet : tie.Need-cast-octet
 cast-octet c = search needs
@@ -49,13 +50,13 @@ write-parts-requires : tie.Need-write-parts-requires
 write-parts-requires c κs = search needs
 
 returns-3 : tie.Need-returns-3
-returns-3 c = let a = c .before .before .before .before .before .before .before .before .before .before .args in write-unknown (a .circuit) (a .kind) (now (a .fixed)) (now (a .first)) (now (a .second)) (now (a .optional)) (now (a .out)) (c .before .before .before .before .if1 .left) (c .before .before .before .if2 .left) (sym (c .before .before .shape-of .ensures) ∙ c .enum-told .given .1)
+returns-3 c = let a = c .before .before .before .before .before .before .before .before .before .before .args in write-unknown (a .circuit) (a .kind) (now (a .fixed)) (now (a .first)) (now (a .second)) (now (a .optional)) (now (a .out)) (omega arith) (omega arith) (sym (c .before .before .shape-of .ensures) ∙ c .enum-told .given .1)
 
 same-length : tie.Need-same-length
 same-length c = search needs
 
 returns-4 : tie.Need-returns-4
-returns-4 c = let a = c .before .before .before .before .before .before .before .before .before .before .before .before .before .before .before .before .before .args in c .before .before .write-parts .ensures ∙ write-has (a .circuit) (a .kind) (now (a .fixed)) (now (a .first)) (now (a .second)) (now (a .optional)) (now (a .out)) (c .before .before .before .before .before .before .before .before .before .before .before .if1 .left) (c .before .before .before .before .before .before .before .before .before .before .if2 .left) _ (sym (c .before .before .before .before .before .before .before .before .before .shape-of .ensures) ∙ c .before .before .before .before .before .before .before .shape .given .1)
+returns-4 c = let a = c .before .before .before .before .before .before .before .before .before .before .before .before .before .before .before .before .before .args in c .before .before .write-parts .ensures ∙ write-has (a .circuit) (a .kind) (now (a .fixed)) (now (a .first)) (now (a .second)) (now (a .optional)) (now (a .out)) (omega (arith, c .before .before .before .before .before .before .before .before .before .before .before .if1 .left)) (omega (arith, c .before .before .before .before .before .before .before .before .before .before .if2 .left)) _ (sym (c .before .before .before .before .before .before .before .before .before .shape-of .ensures) ∙ c .before .before .before .before .before .before .before .shape .given .1)
 
 pub write-spec : {M : Type 1} → statement M
 write-spec =

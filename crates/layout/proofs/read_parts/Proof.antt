@@ -1,4 +1,7 @@
 use mathlib.Core.Path.{_∙_}
+use denote.Ref.{now}
+use native.Mathlib.Omega.{arith}
+use lib.ListN.{length}
 use borrow.Author.Tests.{lt-ltb, le-ltb, le-leb, lt-leb}
 use Rattle.layout.specs.Container.{partsOf}
 use borrow.Author.Needs.{needs}
@@ -7,7 +10,7 @@ use Rattle.layout.proofs.read_parts.Tie as tie
 
 returns : tie.Need-returns
 unfolding partsOf
-returns c = simp (le-leb _ _ (c .if1 .taken))
+returns c = let a = c .before .before .args in simp (le-leb (length (now (a .octets))) (a .width) (omega arith))
 
 returns-2 : tie.Need-returns-2
 unfolding partsOf
