@@ -1,6 +1,7 @@
 """check.py: the model against the paper's samples, and the generator against the list of numbers to reach."""
 
 import sys
+from pathlib import Path
 
 sys.dont_write_bytecode = True
 import model
@@ -73,6 +74,27 @@ def shapes():
     check(len(TYPES) == 24, "24 types")
 
 
+def transcripts():
+    """The examples: a request, and its answer on the line after it, indented."""
+    files = sorted((Path(__file__).resolve().parents[2] / "examples").glob("*.txt"))
+    check(len(files) >= 3, "three transcripts")
+    for file in files:
+        desk = model.Desk()
+        lines = [line for line in file.read_text().split("\n") if line and not line.startswith("#")]
+        check(len(lines) > 1 and len(lines) % 2 == 0, "%s: requests and answers in turn" % file.name)
+        for request, wanted in zip(lines[::2], lines[1::2]):
+            got = "  " + desk.answer(request.encode()).decode()
+            check(got == wanted, "%s: %s\n  answers %s\n  wanted  %s" % (file.name, request, got, wanted))
+
+
+def stored():
+    """The stored case is what the model and the generator make of the stored seed."""
+    import store
+    data = store.stored()
+    for name, wanted in (("stdin", data), ("stdout", model.answers(data))):
+        check((store.DESK / name).read_bytes() == wanted, "crates/desk/%s is what tests/model/store writes" % name)
+
+
 def reached():
     data = generate(STORED_COUNT, STORED_SEED)
     check(data == generate(STORED_COUNT, STORED_SEED), "the same for the same seed")
@@ -90,7 +112,7 @@ def reached():
             check(other != kind or outcome in ["accepted", "bad line"] + numbers, "%s: %s is given" % (kind, outcome))
 
 
-for each in (samples, lines, shapes, reached):
+for each in (samples, lines, shapes, transcripts, stored, reached):
     each()
 for fault in faults:
     print("FAULT: " + fault)

@@ -1,0 +1,39 @@
+use Rattle.answers.specs.Turns.{Left, ended}
+use Rattle.answers.proofs.Turned.{left-same}
+use Rattle.answers.specs.Turns.{Turn, turnFor, leftBy}
+use Rattle.printing.specs.Sheet.{sheet}
+use native.Mathlib.Omega.{arith}
+use denote.Ref.{now}
+use mathlib.Core.Path.{_≡_, refl, sym, _∙_, ap}
+use borrow.Author.Needs.{needs}
+use Rattle.answers.proofs.answer.Statement.{statement}
+use Rattle.answers.proofs.answer.Tie as tie
+
+answer-line-requires : tie.Need-answer-line-requires
+answer-line-requires c κs = search needs
+
+put-octet-requires : tie.Need-put-octet-requires
+put-octet-requires c κs = search needs
+
+same-length : tie.Need-same-length
+same-length c = search needs
+
+same-length-2 : tie.Need-same-length-2
+same-length-2 c = search needs
+
+same-length-3 : tie.Need-same-length-3
+same-length-3 c = search needs
+
+returns : tie.Need-returns
+returns c = left-same refl refl (c .before .before .put-octet .ensures) ∙ ap ended (c .before .before .before .before .before .before .before .before .before .before .answer-line .ensures)
+
+pub answer-spec : {M : Type 1} → statement M
+answer-spec =
+    tie.close
+    (tie.spec
+    answer-line-requires
+    put-octet-requires
+    same-length
+    same-length-2
+    same-length-3
+    returns)

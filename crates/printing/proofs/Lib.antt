@@ -1,0 +1,3 @@
+pub mod Pours
+pub mod ReadBack
+pub mod Determined

@@ -1,0 +1,4 @@
+pub mod Fields
+pub mod Asked
+pub mod Formed
+pub mod Determined

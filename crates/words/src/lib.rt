@@ -1,0 +1,144 @@
+// Words of a line, and what each stands for: a number in decimal digits, or octets in hexadecimal ones.
+ghost use mathlib.Core.Path.{_≡_};
+ghost use Prim.Native.Nat.{_+_, _*_, _≤_, _<_};
+ghost use lib.ListN.{length};
+ghost use Rattle.words.specs.Digits.{valueOf};
+ghost use Rattle.words.specs.Words.{wordEnd, same, numberOf, octetOf, allDigits, areOctets};
+
+// A number, or that the word is none.
+pub enum Number {
+    Is(u32),
+    Not,
+}
+
+// What a hexadecimal digit of either case stands for; 16 for an octet that is no digit.
+pub fn value(digit: u8) -> u8
+    ensures { λ r. ⌜ (r ≡ valueOf digit) × (r ≤ 16) ⌝ }
+{
+    if digit < b'0' {
+        return 16;
+    }
+    if digit <= b'9' {
+        return digit - b'0';
+    }
+    if digit < b'A' {
+        return 16;
+    }
+    if digit <= b'F' {
+        return digit - 55;
+    }
+    if digit < b'a' {
+        return 16;
+    }
+    if digit <= b'f' {
+        return digit - 87;
+    }
+    16
+}
+
+// Where the word that begins at `from` ends: at the first space from there on, or at the line's end.
+pub fn word_end(line: &[u8], from: usize) -> usize
+    ensures { λ r. ⌜ r ≡ wordEnd (now (line .entry)) from ⌝ }
+{
+    let mut at = from;
+    while at < line.len() {
+        if line[at] == b' ' {
+            return at;
+        }
+        at += 1;
+    }
+    at
+}
+
+// Whether two words are the same.
+pub fn is(word: &[u8], other: &[u8]) -> bool
+    ensures { λ r. ⌜ r ≡ same (now (word .entry)) (now (other .entry)) ⌝ }
+{
+    let mut i = 0;
+    while i < word.len() {
+        if other.len() <= i {
+            return false;
+        }
+        if word[i] != other[i] {
+            return false;
+        }
+        i += 1;
+    }
+    if i < other.len() {
+        return false;
+    }
+    true
+}
+
+// The number that a word of decimal digits stands for, up to `most`.
+pub fn number_of(word: &[u8], most: u32) -> Number
+    ensures { λ r. ⌜ r ≡ numberOf most (now (word .entry)) ⌝ }
+{
+    if word.len() == 0 {
+        return Number::Not;
+    }
+    if 10 < word.len() {
+        return Number::Not;
+    }
+    let mut number: u64 = 0;
+    let mut i = 0;
+    while i < word.len() {
+        let digit = value(word[i]);
+        if 9 < digit {
+            return Number::Not;
+        }
+        number = 10 * number + digit as u64;
+        if (most as u64) < number {
+            return Number::Not;
+        }
+        i += 1;
+    }
+    Number::Is(number as u32)
+}
+
+// Whether each octet of a word is a hexadecimal digit.
+fn all_digits(word: &[u8]) -> bool
+    ensures { λ r. ⌜ r ≡ allDigits (now (word .entry)) ⌝ }
+{
+    let mut i = 0;
+    while i < word.len() {
+        if 15 < value(word[i]) {
+            return false;
+        }
+        i += 1;
+    }
+    true
+}
+
+// Whether a word stands for octets: `-` for none, or two hexadecimal digits for each of up to 1024.
+pub fn are_octets(word: &[u8]) -> bool
+    ensures { λ r. ⌜ r ≡ areOctets (now (word .entry)) ⌝ }
+{
+    if word.len() == 1 {
+        return word[0] == b'-';
+    }
+    if word.len() == 0 {
+        return false;
+    }
+    if 2048 < word.len() {
+        return false;
+    }
+    if word.len() % 2 == 1 {
+        return false;
+    }
+    all_digits(word)
+}
+
+// The octet that a word of two hexadecimal digits stands for.
+pub fn octet_of(word: &[u8]) -> Number
+    ensures { λ r. ⌜ r ≡ octetOf (now (word .entry)) ⌝ }
+{
+    if word.len() == 2 {
+        if all_digits(word) {
+            let high = value(word[0]) as u32;
+            let low = value(word[1]) as u32;
+            return Number::Is((16 * high + low) % 256);
+        }
+    }
+    Number::Not
+}
