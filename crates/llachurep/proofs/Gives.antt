@@ -1,0 +1,49 @@
+-- Each way in which reading and finding end.
+use Prim.Native.Nat.{ℕ, _+_, _*_, _≤_, _<_}
+use mathlib.Core.Path.{_≡_, refl, sym, _∙_, ap}
+use mathlib.Core.List.{List, [], _∷_}
+use native.Mathlib.Omega.{arith}
+use borrow.Author.Tests.{lt-ltb, le-ltb}
+use lib.ListN.{length}
+use Rattle.octets.specs.Answer.{Answer, accepted, refused, _then_, unplaced}
+use Rattle.octets.specs.Filled.{done, filled, roomFor}
+use Rattle.octets.proofs.Answer.{refused-accepted, accepted-same}
+use Rattle.isup.specs.declared.Message.{Message}
+use Rattle.isup.specs.Read.{readOf}
+use Rattle.isup.specs.Find.{Spot, locateOf}
+use Rattle.llachurep.specs.Boundary.{Given, given, givenBy, Called, called, valuesOf, readGives, findGives}
+
+-- a number that was come by otherwise
+pub valued : {v w : ℕ} {l : List ℕ} {g : Given} → v ≡ w → given w l ≡ g → given v l ≡ g
+valued {v} {w} {l} {g} e h = ap (λ (x : ℕ). given x l) e ∙ h
+
+pub valued-call : {v w : ℕ} {s b : List ℕ} {g : Called} → v ≡ w → called w s b ≡ g → called v s b ≡ g
+valued-call {v} {w} {s} {b} {g} e h = ap (λ (x : ℕ). called x s b) e ∙ h
+
+-- what is accepted has no octet to drop
+pub unplaced-accepted : {A : Type 0} (x : Answer A) {a : A} → unplaced x ≡ accepted a → x ≡ accepted a
+unplaced-accepted (accepted b) e = e
+unplaced-accepted (refused n at) e = absurd (refused-accepted e)
+
+module _ (m parts : List ℕ) where
+  pub read-refused : (n : ℕ) → unplaced (readOf m) ≡ refused n 0 → given (65536 * n) parts ≡ givenBy (readGives m parts)
+  unfolding readGives
+  read-refused n e = rw e refl
+
+  module _ (x : Message) (e : unplaced (readOf m) ≡ accepted x) where
+    pub read-no-room : length parts < 10 → given 851968 parts ≡ givenBy (readGives m parts)
+    unfolding readGives
+    read-no-room h = rw (e, lt-ltb _ _ h) refl
+
+    pub read-given : 10 ≤ length parts → given 10 (filled (valuesOf x) parts) ≡ givenBy (readGives m parts)
+    unfolding readGives
+    read-given h = rw (e, le-ltb _ _ h) refl
+
+module _ (m defaults : List ℕ) (name : ℕ) (stretch : List ℕ) where
+  pub find-refused : (n at : ℕ) → locateOf m defaults name ≡ refused n at → given (65536 * n) stretch ≡ givenBy (findGives m defaults name stretch)
+  unfolding findGives
+  find-refused n at e = rw e refl
+
+  pub find-given : (s : Spot) → locateOf m defaults name ≡ accepted s → givenBy (done stretch (roomFor stretch (s .holder, s .start ∷ s .len ∷ []))) ≡ givenBy (findGives m defaults name stretch)
+  unfolding findGives
+  find-given s e = rw e refl

@@ -1,0 +1,4 @@
+pub mod Small
+pub mod Gives
+pub mod Determined
+pub mod Keeps

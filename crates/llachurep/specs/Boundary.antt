@@ -1,0 +1,82 @@
+-- Answers as one number: 65536 * N + v, where N is the refusal's number, 0 for what is accepted, and v is what each function says.
+use Prim.Native.Nat.{ℕ, _+_, _*_, _-_, _≤_}
+use mathlib.Core.List.{List, [], _∷_}
+use lib.Dec.{eqb}
+use Rattle.octets.specs.Choice.{if_then_else_}
+use Rattle.octets.specs.Answer.{Answer, accepted, refused, _then_, unplaced}
+use Rattle.octets.specs.Filled.{Done, done, roomFor}
+use Rattle.layout.specs.declared.Span.{Span}
+use Rattle.isup.specs.declared.Message.{Message}
+use Rattle.isup.specs.Read.{readOf}
+use Rattle.isup.specs.Find.{Spot, locateOf}
+use Rattle.number.specs.declared.Number.{Number}
+use Rattle.hub.specs.Acts.{After}
+
+-- what is accepted gives its value, a refusal its number
+abbrev pub packed : Answer ℕ → ℕ
+packed (accepted v) = v
+packed (refused n at) = 65536 * n
+
+-- a number, and what the lent buffer holds afterwards
+pub record Given : Type 0 where
+  pub value : ℕ
+  pub left : List ℕ
+
+abbrev pub given : ℕ → List ℕ → Given
+given value left = record { value = value; left = left }
+
+abbrev pub givenBy : Done ℕ → Given
+givenBy d = given (packed (d .answer)) (d .left)
+
+-- how many octets a span has
+abbrev pub size : Span → ℕ
+size s = s .to - s .from
+
+-- where the fixed part starts; 0 for a type that has none
+abbrev pub fixedStart : Span → ℕ
+fixedStart s = if eqb (s .from) (s .to) then 0 else s .from
+
+-- circuit, type, then start and length of the fixed part, of the first and of the second contents, and of the optional run
+abbrev pub valuesOf : Message → List ℕ
+valuesOf x =
+    x .circuit ∷ x .kind
+    ∷ fixedStart (x .parts .fixed) ∷ size (x .parts .fixed)
+    ∷ x .parts .first .from ∷ size (x .parts .first)
+    ∷ x .parts .second .from ∷ size (x .parts .second)
+    ∷ x .parts .optional .from ∷ size (x .parts .optional)
+    ∷ []
+
+-- no part ends before it starts, or past what 16 bits hold
+abbrev pub Placed : Span → Type 0
+Placed s = (s .from ≤ s .to) × (s .to ≤ 65535)
+
+abbrev pub Small : Message → Type 0
+Small x = Placed (x .parts .fixed) × Placed (x .parts .first) × Placed (x .parts .second) × Placed (x .parts .optional)
+
+-- reading: 10 numbers; the reader's numbers, then 13 where there is no room for them
+unfoldable pub readGives : List ℕ → List ℕ → Done ℕ
+readGives m parts = done parts (unplaced (readOf m) then λ x. roomFor parts (10, valuesOf x))
+
+-- finding: 0 where the message held it, 100 where the defaults did, and the stretch's start and length; the finding's numbers, then 13
+unfoldable pub findGives : List ℕ → List ℕ → ℕ → List ℕ → Done ℕ
+findGives m defaults name stretch = done stretch (unplaced (locateOf m defaults name) then λ s. roomFor stretch (s .holder, s .start ∷ s .len ∷ []))
+
+-- reading a number: 4294967296 * N + 65536 * nature + 4096 * internal + 256 * plan + count
+abbrev pub packedNumber : Answer Number → ℕ
+packedNumber (accepted x) = 65536 * x .nature + 4096 * x .internal + 256 * x .plan + x .count
+packedNumber (refused n at) = 4294967296 * n
+
+abbrev pub numberGiven : Done Number → Given
+numberGiven d = given (packedNumber (d .answer)) (d .left)
+
+-- a number, and what the states and the answer buffer hold afterwards
+pub record Called : Type 0 where
+  pub value : ℕ
+  pub states : List ℕ
+  pub buffer : List ℕ
+
+abbrev pub called : ℕ → List ℕ → List ℕ → Called
+called value states buffer = record { value = value; states = states; buffer = buffer }
+
+abbrev pub calledBy : After → Called
+calledBy a = called (packed (a .answer)) (a .states) (a .buffer)
