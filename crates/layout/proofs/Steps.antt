@@ -1,6 +1,7 @@
 -- What a step and a run of steps do, from the facts and not the tests. Each holds at any bound on the steps that is enough, so no proof compares two bounds.
 use Prim.Native.Nat.{ℕ, zero, suc, _+_, _≤_, _<_}
 use mathlib.Core.Path.{_≡_, refl, sym, _∙_, ap}
+use mathlib.Core.Bool.{false}
 use mathlib.Core.List.{List}
 use mathlib.Core.Logic.{⊎-elim}
 use native.Mathlib.Omega.{arith}
@@ -9,6 +10,7 @@ use lib.Dec.{leb, ltb, eqb}
 use lib.ListN.{length}
 use Rattle.octets.specs.Octet.{octet}
 use Rattle.octets.proofs.Choice.{chosen}
+use Rattle.layout.specs.declared.Span.{Span}
 use Rattle.layout.specs.declared.Field.{Field}
 use Rattle.layout.specs.declared.Step.{Step}
 use Rattle.layout.specs.declared.Step.the-variants.{Param, Close, End, Pass}
@@ -17,6 +19,7 @@ use Rattle.layout.specs.declared.Stop.the-variants.{Closed, Ended, Passe
 use Rattle.layout.specs.declared.Found.{Found}
 use Rattle.layout.specs.declared.Found.the-variants.{At, Nowhere}
 use Rattle.layout.specs.Run.{next, stepAt, stepped, stops, sought, seeks}
+use Rattle.layout.specs.Container.{sharesOf}
 use Rattle.layout.specs.Laid.{Closes}
 use Rattle.layout.specs.Faults.{Passes}
 
@@ -112,3 +115,8 @@ module _ (m : List ℕ) (i : ℕ) where
   seeks-over (suc k) name Close h o = rw h
   seeks-over (suc k) name End h o = rw h
   seeks-over (suc k) name Pass h o = rw h
+
+-- a part that ends at octet 0 is not there, and shares no octet
+pub no-share : (a b : Span) → b .to ≡ 0 → sharesOf a b ≡ false
+unfolding sharesOf
+no-share a b e = rw (e, le-leb 0 (a .from) (omega arith)) refl

@@ -293,7 +293,7 @@ fn run_of(part: Span) -> Span
 }
 
 // Refused with 8 where two of the parts share an octet: the first pair that does, in pointer order, by first member and then by second.
-fn judge(fixed: Span, a: Span, b: Span, c: Span, d: Span) -> Body
+fn judge_pairs(fixed: Span, a: Span, b: Span, c: Span, d: Span) -> Body
     ensures { λ r. ⌜ bodyTold r ≡ judged fixed a b c d ⌝ }
 {
     if shares(a, b) {
@@ -321,6 +321,26 @@ fn judge(fixed: Span, a: Span, b: Span, c: Span, d: Span) -> Body
         third: contents_of(c),
         optional: run_of(d),
     })
+}
+
+// The same. Where the first part is the only one, there is no pair to look at.
+fn judge(fixed: Span, a: Span, b: Span, c: Span, d: Span) -> Body
+    ensures { λ r. ⌜ bodyTold r ≡ judged fixed a b c d ⌝ }
+{
+    if b.to == 0 {
+        if c.to == 0 {
+            if d.to == 0 {
+                return Body::Laid(Parts {
+                    fixed,
+                    first: contents_of(a),
+                    second: contents_of(b),
+                    third: contents_of(c),
+                    optional: run_of(d),
+                });
+            }
+        }
+    }
+    judge_pairs(fixed, a, b, c, d)
 }
 
 // The parts of a message of that shape whose type octet stands at `width`.

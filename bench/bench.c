@@ -1,0 +1,144 @@
+/* bench FUNCTION MESSAGE WHO CALLS: so many calls of one function on one message, by the library (l), by the plain code (p) or by a
+ * function that only returns (n). bench/run counts the instructions. Before the calls, both are seen to answer alike. */
+#include <string.h>
+
+#include "../tests/boundary/plain.h"
+#include "llachurep.h"
+
+/* One instruction, to be called as any of the others. */
+__asm__(".text\n.globl bench_none\nbench_none:\n\tret\n");
+void bench_none(void);
+
+typedef uint32_t reading(const uint8_t *, size_t, uint16_t *, size_t);
+typedef uint32_t writing(uint32_t, uint32_t, const uint8_t *, size_t, const uint8_t *, size_t, const uint8_t *, size_t,
+                         const uint8_t *, size_t, uint8_t *, size_t);
+typedef uint32_t finding(const uint8_t *, size_t, const uint8_t *, size_t, uint32_t, size_t *, size_t);
+typedef uint64_t numbering(const uint8_t *, size_t, uint8_t *, size_t);
+typedef uint32_t acting(uint8_t *, size_t, const uint8_t *, size_t, uint32_t, const uint8_t *, size_t, uint8_t *, size_t);
+
+static uint8_t m[268], states[4096], owners[4096];
+static size_t length;
+static uint32_t last_name;
+static volatile uint64_t sink;
+
+static void put(unsigned octet)
+{
+    m[length++] = (uint8_t)octet;
+}
+
+static void put_parameter(unsigned name, unsigned size)
+{
+    put(name);
+    put(size);
+    for (unsigned i = 0; i < size; i++)
+        put(7 * i + name);
+    last_name = name;
+}
+
+/* An IAM with a number of 12 digits; its optional part comes next. */
+static void put_iam(void)
+{
+    static const uint8_t start[] = {0x01, 0x00, 0x01, 0x00, 0x60, 0x01, 0x0A, 0x00, 0x02, 0x0A, 0x08,
+                                    0x03, 0x10, 0x21, 0x43, 0x65, 0x87, 0x09, 0x21};
+    memcpy(m, start, sizeof start);
+    length = sizeof start;
+}
+
+static int message(const char *name)
+{
+    if (strcmp(name, "grs") == 0) {
+        static const uint8_t grs[] = {0x05, 0x00, 0x17, 0x01, 0x01, 0x03};
+        memcpy(m, grs, sizeof grs);
+        length = sizeof grs;
+    } else if (strcmp(name, "iam3") == 0) {
+        put_iam();
+        put_parameter(0x0A, 8);
+        put_parameter(0x1D, 3);
+        put_parameter(0x03, 4);
+        put(0);
+    } else if (strcmp(name, "iam29") == 0) {
+        put_iam();
+        for (unsigned i = 0; i < 28; i++)
+            put_parameter(0x20 + i, 6);
+        put_parameter(0x80, 22);
+        put(0);
+    } else if (strcmp(name, "cgb") == 0) {
+        static const uint8_t cgb[] = {0x00, 0x00, 0x18, 0x00, 0x01, 0x21, 0xFF};
+        memcpy(m, cgb, sizeof cgb);
+        length = sizeof cgb;
+        for (unsigned i = 0; i < 32; i++)
+            put(91 * i + 0x35);
+    } else {
+        return 0;
+    }
+    return 1;
+}
+
+#define PICK(type, name) (who == 'l' ? llachurep_##name : who == 'p' ? plain_##name : (type *)bench_none)
+
+int main(int count, char **words)
+{
+    if (count != 5 || !message(words[2]))
+        return 2;
+    const char *function = words[1];
+    char who = words[3][0];
+    unsigned calls = 0;
+    for (const char *c = words[4]; *c; c++)
+        calls = 10 * calls + (unsigned)(*c - '0');
+
+    uint16_t parts[10] = {0}, parts_of_plain[10];
+    uint8_t out[268] = {0}, out_of_plain[268] = {0};
+    size_t stretch[2] = {0}, stretch_of_plain[2];
+    static uint8_t states_of_plain[4096];
+    memset(owners, 7, sizeof owners);
+    if (llachurep_read(m, length, parts, 10) != 10 || plain_read(m, length, parts_of_plain, 10) != 10 ||
+        memcmp(parts, parts_of_plain, sizeof parts) != 0)
+        return 1;
+
+    if (strcmp(function, "read") == 0) {
+        reading *volatile f = PICK(reading, read);
+        for (unsigned i = 0; i < calls; i++)
+            sink += f(m, length, parts, 10);
+    } else if (strcmp(function, "write") == 0) {
+        const uint8_t *fixed = m + parts[2], *first = m + parts[4], *second = m + parts[6], *optional = m + parts[8];
+        uint32_t size = llachurep_write(parts[0], parts[1], fixed, parts[3], first, parts[5], second, parts[7], optional,
+                                        parts[9], out, sizeof out);
+        if (size != length || memcmp(out, m, length) != 0 ||
+            plain_write(parts[0], parts[1], fixed, parts[3], first, parts[5], second, parts[7], optional, parts[9],
+                        out_of_plain, sizeof out) != size || memcmp(out_of_plain, m, length) != 0)
+            return 1;
+        writing *volatile f = PICK(writing, write);
+        for (unsigned i = 0; i < calls; i++)
+            sink += f(parts[0], parts[1], fixed, parts[3], first, parts[5], second, parts[7], optional, parts[9], out,
+                      sizeof out);
+    } else if (strcmp(function, "find") == 0) {
+        if (llachurep_find(m, length, 0, 0, last_name, stretch, 2) != 0 ||
+            plain_find(m, length, 0, 0, last_name, stretch_of_plain, 2) != 0 ||
+            memcmp(stretch, stretch_of_plain, sizeof stretch) != 0)
+            return 1;
+        finding *volatile f = PICK(finding, find);
+        for (unsigned i = 0; i < calls; i++)
+            sink += f(m, length, 0, 0, last_name, stretch, 2);
+    } else if (strcmp(function, "number") == 0) {
+        uint64_t answer = llachurep_number_read(m + parts[4], parts[5], out, sizeof out);
+        if (LLACHUREP_NUMBER_COUNT(answer) != 12 ||
+            plain_number_read(m + parts[4], parts[5], out_of_plain, sizeof out) != answer || memcmp(out, out_of_plain, 12) != 0)
+            return 1;
+        numbering *volatile f = PICK(numbering, number_read);
+        for (unsigned i = 0; i < calls; i++)
+            sink += f(m + parts[4], parts[5], out, sizeof out);
+    } else if (strcmp(function, "act") == 0) {
+        uint32_t size = llachurep_act(states, 4096, owners, 4096, 7, m, length, out, sizeof out);
+        if (size >> 16 || plain_act(states_of_plain, 4096, owners, 4096, 7, m, length, out_of_plain, sizeof out) != size ||
+            memcmp(out, out_of_plain, sizeof out) != 0 || memcmp(states, states_of_plain, sizeof states) != 0)
+            return 1;
+        acting *volatile f = PICK(acting, act);
+        for (unsigned i = 0; i < calls; i++) {
+            states[parts[0]] = 0; /* so that an IAM is accepted each time */
+            sink += f(states, 4096, owners, 4096, 7, m, length, out, sizeof out);
+        }
+    } else {
+        return 2;
+    }
+    return 0;
+}

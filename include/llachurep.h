@@ -1,0 +1,122 @@
+/* llachurep.h: ISUP messages and the hub's circuit table, for C (C99) and C++.
+ *
+ * The library is target/staticlib/libllachurep.a, made by tools/staticlib, for x86-64.
+ * Every function is proved to answer as the paper says (docs/PROMISES.md), and touches nothing but what it is lent.
+ *
+ * What is lent. A buffer comes as a pointer and a count of elements. A buffer of count 0 may have a null pointer.
+ * The buffers of one call do not overlap one another. Nothing is kept after the call.
+ *
+ * What comes back. Answers are one number, 65536 * N + v. N is 0 where the call is accepted, and v is then said at each
+ * function. Else N is the refusal's number, v is 0, and no lent octet has changed. (llachurep_number_read answers
+ * 64 bits: its N stands above the low 32.)
+ *
+ * Where several refusals apply, the first in the order that stands at the function is given.
+ */
+#ifndef LLACHUREP_H
+#define LLACHUREP_H
+
+#include <stddef.h>
+#include <stdint.h>
+
+/* The refusal's number, 0 where the call is accepted; and the value of an accepted call. */
+#define LLACHUREP_REFUSAL(answer) ((uint32_t)(answer) >> 16)
+#define LLACHUREP_VALUE(answer) ((uint32_t)(answer) & 65535u)
+
+/* The same for the 64 bits of llachurep_number_read, with the four fields of an accepted number. */
+#define LLACHUREP_NUMBER_REFUSAL(answer) ((uint32_t)((uint64_t)(answer) >> 32))
+#define LLACHUREP_NUMBER_NATURE(answer) ((uint32_t)((uint64_t)(answer) >> 16) & 127u)
+#define LLACHUREP_NUMBER_INTERNAL(answer) ((uint32_t)((uint64_t)(answer) >> 12) & 1u)
+#define LLACHUREP_NUMBER_PLAN(answer) ((uint32_t)((uint64_t)(answer) >> 8) & 7u)
+#define LLACHUREP_NUMBER_COUNT(answer) ((uint32_t)(answer) & 255u)
+
+/* The refusals' numbers. */
+enum {
+    LLACHUREP_TOO_SHORT = 1,         /* under 3 octets */
+    LLACHUREP_TOO_LONG = 2,          /* over 268 octets */
+    LLACHUREP_NO_TYPE = 3,           /* type not in the table */
+    LLACHUREP_CUT = 4,               /* fixed part or pointers cut off by the message's end */
+    LLACHUREP_POINTER = 5,           /* a pointer that may not be */
+    LLACHUREP_CONTENTS_PASS = 6,     /* variable contents pass the message's end */
+    LLACHUREP_OPTIONAL_OPEN = 7,     /* optional part passes the message's end, or is not closed */
+    LLACHUREP_SHARED = 8,            /* two parts share an octet */
+    LLACHUREP_CIRCUIT = 9,           /* circuit number to write above 4095 */
+    LLACHUREP_PARTS = 10,            /* fixed octets of wrong count, or contents for a part the type lacks */
+    LLACHUREP_RUN = 11,              /* optional run: a name 0, or a parameter that passes its end */
+    LLACHUREP_OVER_255 = 12,         /* a length or pointer to write exceeds 255 */
+    LLACHUREP_ROOM = 13,             /* lent output too short */
+    LLACHUREP_RULE = 14,             /* typed contents break their rule */
+    LLACHUREP_NONE = 15,             /* no such optional parameter */
+    LLACHUREP_TABLE = 16,            /* state or ownership table not exactly 4096 octets */
+    LLACHUREP_NO_ACT = 17,           /* a type the hub does not act on */
+    LLACHUREP_GROUP = 18,            /* group passes circuit 4095 */
+    LLACHUREP_NOT_OWNER = 19,        /* a named circuit is not the sender's, or the sender is 0 */
+    LLACHUREP_STATE = 20,            /* a named circuit's state octet is not legal */
+    LLACHUREP_NOT_FREE = 21          /* IAM on a circuit that is busy or blocked */
+};
+
+/* What llachurep_read puts into parts[0] to parts[9]. Starts count from the message's first octet. */
+enum {
+    LLACHUREP_PART_CIRCUIT = 0,
+    LLACHUREP_PART_TYPE = 1,
+    LLACHUREP_PART_FIXED = 2,        /* start, then length */
+    LLACHUREP_PART_FIRST = 4,        /* start, then length; past the length octet */
+    LLACHUREP_PART_SECOND = 6,       /* start, then length; past the length octet */
+    LLACHUREP_PART_OPTIONAL = 8,     /* start, then length; without the closing 0 */
+    LLACHUREP_PARTS_COUNT = 10
+};
+
+#ifdef __cplusplus
+extern "C" {
+#endif
+
+/* Reads a message. Accepted: v is 10, and parts[0] to parts[9] are the circuit number, the type, then start and length
+ * of the fixed part, of the first and of the second variable contents, and of the optional run. A part that the type or
+ * the message lacks has 0, 0; contents that are there but empty have their start and length 0, and so has an optional
+ * part that holds only its closing 0. Further elements of parts stay.
+ * Refused: 1, 2, 3, 4; each variable pointer in turn 5 then 6; the optional pointer 5 then 7; 8; 13 where count is
+ * under 10. */
+uint32_t llachurep_read(const uint8_t *message, size_t length, uint16_t *parts, size_t count);
+
+/* Writes a message in its compact form. `optional` is the optional run without its closing 0; a part that is not used is
+ * empty. Accepted: v is how many octets were written, to the front of out; the rest of out stays.
+ * Refused: 9, 3, 10, 11, 12, 2, 13. */
+uint32_t llachurep_write(uint32_t circuit, uint32_t type, const uint8_t *fixed, size_t fixed_length,
+                         const uint8_t *first, size_t first_length, const uint8_t *second, size_t second_length,
+                         const uint8_t *optional, size_t optional_length, uint8_t *out, size_t out_length);
+
+/* Reads a message and writes it again in its compact form. Accepted: v is how many octets were written, to the front of
+ * out; the rest of out stays.
+ * Refused: as llachurep_read, but for its 13; then 12, 13. */
+uint32_t llachurep_compact(const uint8_t *message, size_t length, uint8_t *out, size_t out_length);
+
+/* Finds the first parameter of that name in the message's optional part, else in the defaults, which are an optional run
+ * without closing 0. Accepted: v is 0 where the message held it and 100 where the defaults did; stretch[0] and
+ * stretch[1] are start and length of its contents within whichever held it; further elements stay.
+ * Refused: as llachurep_read, but for its 13; 11 for the defaults; 15, also for a name 0 or above 255; 13 where count is
+ * under 2. */
+uint32_t llachurep_find(const uint8_t *message, size_t length, const uint8_t *defaults, size_t defaults_length,
+                        uint32_t name, size_t *stretch, size_t count);
+
+/* Reads the contents of a called party number. Answers 4294967296 * N + 65536 * nature + 4096 * internal + 256 * plan
+ * + count, and puts that many signals, one to an octet, to the front of signals; the rest of signals stays.
+ * Refused: 14, 13. */
+uint64_t llachurep_number_read(const uint8_t *contents, size_t length, uint8_t *signals, size_t signals_length);
+
+/* Writes the contents of a called party number; signals come one to an octet. Accepted: v is how many octets were
+ * written, to the front of out; the rest of out stays.
+ * Refused: 14, 13. */
+uint32_t llachurep_number_write(uint32_t nature, uint32_t plan, uint32_t internal, const uint8_t *signals,
+                                size_t signals_length, uint8_t *out, size_t out_length);
+
+/* Applies a message of that sender to the table: one state octet and one ownership octet for each of 4096 circuits.
+ * Accepted: v is how many octets the answer has (0 for an IAM), at the front of answer, and the states of the circuits
+ * that the message names become what its rule says; all other states and the rest of answer stay.
+ * Refused: 16; as llachurep_read, but for its 13; 17, 14, 18, 19, 20, 21, 13. */
+uint32_t llachurep_act(uint8_t *states, size_t states_length, const uint8_t *owners, size_t owners_length,
+                       uint32_t sender, const uint8_t *message, size_t length, uint8_t *answer, size_t answer_length);
+
+#ifdef __cplusplus
+}
+#endif
+
+#endif

@@ -1,0 +1,208 @@
+/* The desk of the README, in C, over the library; with -DPLAIN over the plain code of this folder. tests/boundary/run puts the
+ * stored requests of tests/model to both. Line forms as in the README; a line is read whole before it is answered. */
+#include <stdio.h>
+#include <string.h>
+
+#ifdef PLAIN
+#include "plain.h"
+#define CALL(name) plain_##name
+#define NUMBER_REFUSAL(answer) ((unsigned)((answer) >> 32))
+#else
+#include "llachurep.h"
+#define CALL(name) llachurep_##name
+#define NUMBER_REFUSAL(answer) LLACHUREP_NUMBER_REFUSAL(answer)
+#endif
+
+enum { LINE = 8192, OCTETS = 1024, FIELDS = 8 };
+
+struct field {
+    uint32_t number;
+    size_t count;
+    uint8_t octets[OCTETS];
+};
+
+static uint8_t states[4096], owners[4096], out[OCTETS];
+static char line[LINE + 2];
+static struct field fields[FIELDS];
+
+static int digit(char c)
+{
+    return c >= '0' && c <= '9' ? c - '0' : c >= 'a' && c <= 'f' ? c - 'a' + 10 : c >= 'A' && c <= 'F' ? c - 'A' + 10 : -1;
+}
+
+/* A word as the form says: o octets, t a type or name, n any number, r a room, c a circuit, s a small number. */
+static int parse(const char *word, size_t length, char form, struct field *to)
+{
+    if (form == 'o' || form == 't') {
+        to->count = 0;
+        if (form == 'o' && length == 1 && word[0] == '-')
+            return 1;
+        if (length == 0 || length % 2 || length > 2 * OCTETS || (form == 't' && length != 2))
+            return 0;
+        for (size_t i = 0; i < length; i += 2) {
+            if (digit(word[i]) < 0 || digit(word[i + 1]) < 0)
+                return 0;
+            to->octets[to->count++] = (uint8_t)(16 * digit(word[i]) + digit(word[i + 1]));
+        }
+        to->number = to->octets[0];
+        return 1;
+    }
+    uint64_t value = 0, most = form == 'n' ? 4294967295u : form == 'r' ? 1024 : form == 'c' ? 4095 : 255;
+    if (length == 0 || length > 10)
+        return 0;
+    for (size_t i = 0; i < length; i++) {
+        if (word[i] < '0' || word[i] > '9')
+            return 0;
+        value = 10 * value + (unsigned)(word[i] - '0');
+    }
+    to->number = (uint32_t)value;
+    return value <= most;
+}
+
+/* Whether the line is that word and then fields of those forms, one space between each. */
+static int is(size_t length, const char *name, const char *forms)
+{
+    size_t at = strlen(name), field = 0;
+    if (length < at || memcmp(line, name, at) != 0)
+        return 0;
+    for (; *forms; forms++, field++) {
+        if (at >= length || line[at] != ' ')
+            return 0;
+        size_t start = ++at;
+        while (at < length && line[at] != ' ')
+            at++;
+        if (!parse(line + start, at - start, *forms, &fields[field]))
+            return 0;
+    }
+    return at == length;
+}
+
+static void hex(const uint8_t *octets, size_t count)
+{
+    if (count == 0)
+        printf("-");
+    for (size_t i = 0; i < count; i++)
+        printf("%02x", octets[i]);
+}
+
+static void octets(const char *word, uint32_t answer)
+{
+    if (answer >> 16) {
+        printf("refused %u\n", answer >> 16);
+        return;
+    }
+    printf("%s ", word);
+    hex(out, answer);
+    printf("\n");
+}
+
+/* The boundary has no question for the shape; what the writer takes shows it. */
+static unsigned tried(uint32_t type, size_t fixed, size_t first, size_t second, size_t optional)
+{
+    static const uint8_t zeros[5], run[2] = {1, 0};
+    return CALL(write)(0, type, zeros, fixed, zeros, first, zeros, second, run, optional, out, OCTETS) >> 16;
+}
+
+static void shape(uint32_t type)
+{
+    size_t fixed = 0;
+    if (tried(type, 0, 0, 0, 0) == 3) {
+        printf("refused 3\n");
+        return;
+    }
+    while (tried(type, fixed, 0, 0, 0))
+        fixed++;
+    printf("fixed %u variable %u optional %s\n", (unsigned)fixed,
+           !tried(type, fixed, 1, 0, 0) + !tried(type, fixed, 0, 1, 0), tried(type, fixed, 0, 0, 2) ? "no" : "yes");
+}
+
+static void answer(size_t length)
+{
+    const struct field *f = fields;
+    if (is(length, "shape", "t")) {
+        shape(f[0].number);
+    } else if (is(length, "read", "o")) {
+        uint16_t p[10];
+        uint32_t got = CALL(read)(f[0].octets, f[0].count, p, 10);
+        if (got >> 16) {
+            printf("refused %u\n", got >> 16);
+            return;
+        }
+        printf("circuit %u type %02x fixed ", p[0], p[1]);
+        hex(f[0].octets + p[2], p[3]);
+        printf(" first ");
+        hex(f[0].octets + p[4], p[5]);
+        printf(" second ");
+        hex(f[0].octets + p[6], p[7]);
+        printf(" optional ");
+        hex(f[0].octets + p[8], p[9]);
+        printf("\n");
+    } else if (is(length, "write", "ntoooor")) {
+        octets("octets", CALL(write)(f[0].number, f[1].number, f[2].octets, f[2].count, f[3].octets, f[3].count,
+                                     f[4].octets, f[4].count, f[5].octets, f[5].count, out, f[6].number));
+    } else if (is(length, "compact", "or")) {
+        octets("octets", CALL(compact)(f[0].octets, f[0].count, out, f[1].number));
+    } else if (is(length, "find", "too")) {
+        size_t s[2];
+        uint32_t got = CALL(find)(f[1].octets, f[1].count, f[2].octets, f[2].count, f[0].number, s, 2);
+        if (got >> 16) {
+            printf("refused %u\n", got >> 16);
+            return;
+        }
+        printf(got ? "defaults " : "message ");
+        hex(f[got ? 2 : 1].octets + s[0], s[1]);
+        printf("\n");
+    } else if (is(length, "number", "or")) {
+        uint64_t got = CALL(number_read)(f[0].octets, f[0].count, out, f[1].number);
+        if (NUMBER_REFUSAL(got)) {
+            printf("refused %u\n", NUMBER_REFUSAL(got));
+            return;
+        }
+        printf("nature %u plan %u internal %u signals ", (unsigned)(got >> 16), (unsigned)(got >> 8 & 7),
+               (unsigned)(got >> 12 & 1));
+        hex(out, got & 255);
+        printf("\n");
+    } else if (is(length, "dial", "nnnor")) {
+        octets("octets", CALL(number_write)(f[0].number, f[1].number, f[2].number, f[3].octets, f[3].count, out,
+                                            f[4].number));
+    } else if (is(length, "own", "ccs") && f[0].number <= f[1].number) {
+        memset(owners + f[0].number, (int)f[2].number, f[1].number - f[0].number + 1);
+        printf("ok\n");
+    } else if (is(length, "set", "ccs") && f[0].number <= f[1].number) {
+        memset(states + f[0].number, (int)f[2].number, f[1].number - f[0].number + 1);
+        printf("ok\n");
+    } else if (is(length, "act", "nor")) {
+        octets("answer", CALL(act)(states, 4096, owners, 4096, f[0].number, f[1].octets, f[1].count, out, f[2].number));
+    } else if (is(length, "rows", "cc") && f[0].number <= f[1].number) {
+        printf("rows ");
+        hex(states + f[0].number, f[1].number - f[0].number + 1);
+        printf("\n");
+    } else {
+        printf("bad line\n");
+    }
+}
+
+int main(void)
+{
+    size_t length = 0;
+    for (;;) {
+        int c = getchar();
+        if (c == EOF && length == 0)
+            return 0;
+        if (c != EOF && c != '\n') {
+            if (length < LINE + 2)
+                line[length] = (char)c;
+            length++;
+            continue;
+        }
+        if (c == '\n' && length > 0 && length <= LINE + 2 && line[length - 1] == '\r')
+            length--;
+        if (length > LINE)
+            printf("bad line\n");
+        else
+            answer(length);
+        length = 0;
+        if (c == EOF)
+            return 0;
+    }
+}

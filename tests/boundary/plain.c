@@ -1,0 +1,458 @@
+/* Document 01 in plain C, written from the paper and not from the proved code. The boundary test holds the library to it,
+ * and the benchmark takes it as the yardstick: bounds are checked, as a careful programmer does, nothing is done twice, and
+ * what is inlined is left to the compiler. */
+#include "plain.h"
+
+#include <string.h>
+
+enum { SHORTEST = 3, LONGEST = 268, CIRCUITS = 4096 };
+
+enum {
+    IAM = 0x01, SAM = 0x02, COT = 0x05, ACM = 0x06, CON = 0x07, ANM = 0x09, REL = 0x0C, SUS = 0x0D, RES = 0x0E,
+    RLC = 0x10, RSC = 0x12, BLO = 0x13, UBL = 0x14, BLA = 0x15, UBA = 0x16, GRS = 0x17, CGB = 0x18, CGU = 0x19,
+    CGBA = 0x1A, CGUA = 0x1B, GRA = 0x29, CQM = 0x2A, CQR = 0x2B, CPG = 0x2C
+};
+
+struct shape {
+    uint8_t known, fixed, variable, optional;
+};
+
+static const struct shape shapes[256] = {
+    [IAM] = {1, 5, 1, 1},
+    [SAM] = {1, 0, 1, 1}, [REL] = {1, 0, 1, 1},
+    [COT] = {1, 1, 0, 0},
+    [ACM] = {1, 2, 0, 1}, [CON] = {1, 2, 0, 1},
+    [ANM] = {1, 0, 0, 1}, [RLC] = {1, 0, 0, 1},
+    [SUS] = {1, 1, 0, 1}, [RES] = {1, 1, 0, 1}, [CPG] = {1, 1, 0, 1},
+    [RSC] = {1, 0, 0, 0}, [BLO] = {1, 0, 0, 0}, [UBL] = {1, 0, 0, 0}, [BLA] = {1, 0, 0, 0}, [UBA] = {1, 0, 0, 0},
+    [GRS] = {1, 0, 1, 0}, [GRA] = {1, 0, 1, 0}, [CQM] = {1, 0, 1, 0},
+    [CGB] = {1, 1, 1, 0}, [CGU] = {1, 1, 1, 0}, [CGBA] = {1, 1, 1, 0}, [CGUA] = {1, 1, 1, 0},
+    [CQR] = {1, 0, 2, 0},
+};
+
+static uint32_t refusal(unsigned number)
+{
+    return (uint32_t)number << 16;
+}
+
+/* ------------------------------------------------------------------------------------------------ the reader */
+
+struct stretch {
+    unsigned start, length;
+};
+
+struct message {
+    unsigned circuit, type;
+    struct stretch fixed, variable[2], optional;
+};
+
+/* The variable parameter that the pointer at `place` points at: 5, then 6. */
+static unsigned parse_variable(const uint8_t *octets, unsigned l, unsigned end, unsigned place, struct stretch *x)
+{
+    unsigned target = place + octets[place];
+    if (target < end || target >= l) /* a pointer of 0 points at itself, before the end */
+        return 5;
+    unsigned size = octets[target];
+    if (target + 1 + size > l)
+        return 6;
+    x->start = target + 1;
+    x->length = size;
+    return 0;
+}
+
+/* 1, 2, 3, 4; each variable pointer in turn 5 then 6; the optional pointer 5 then 7; then 8. 0 is accepted. */
+static unsigned parse(const uint8_t *octets, size_t length, struct message *x)
+{
+    if (length < SHORTEST)
+        return 1;
+    if (length > LONGEST)
+        return 2;
+    unsigned l = (unsigned)length;
+    struct shape row = shapes[octets[2]];
+    if (!row.known)
+        return 3;
+    unsigned pointers = 3u + row.fixed;
+    unsigned end = pointers + row.variable + row.optional;
+    if (end > l)
+        return 4;
+
+    struct stretch first = {0, 0}, second = {0, 0}, optional = {0, 0};
+    unsigned fault;
+    if (row.variable >= 1) {
+        fault = parse_variable(octets, l, end, pointers, &first);
+        if (fault)
+            return fault;
+    }
+    if (row.variable == 2) {
+        fault = parse_variable(octets, l, end, pointers + 1, &second);
+        if (fault)
+            return fault;
+    }
+    if (row.optional && octets[end - 1] != 0) {
+        unsigned target = end - 1 + octets[end - 1];
+        if (target >= l)
+            return 5;
+        unsigned at = target;
+        while (octets[at] != 0) {
+            if (at + 1 >= l)
+                return 7;
+            at += 2u + octets[at + 1];
+            if (at >= l)
+                return 7;
+        }
+        optional.start = target;
+        optional.length = at - target;
+        /* A variable parameter begins at its length octet, an optional part ends with its closing 0. */
+        if (row.variable >= 1 && target < first.start + first.length && first.start - 1 < at + 1)
+            return 8;
+    }
+    /* No type has two variable parameters and an optional part. */
+    if (row.variable == 2 && first.start - 1 < second.start + second.length && second.start - 1 < first.start + first.length)
+        return 8;
+
+    x->circuit = octets[0] + 256u * (octets[1] & 15u);
+    x->type = octets[2];
+    x->fixed.start = row.fixed ? 3 : 0;
+    x->fixed.length = row.fixed;
+    x->variable[0] = first;
+    x->variable[1] = second;
+    x->optional = optional;
+    return 0;
+}
+
+uint32_t plain_read(const uint8_t *message, size_t length, uint16_t *parts, size_t count)
+{
+    struct message x;
+    unsigned fault = parse(message, length, &x);
+    if (fault)
+        return refusal(fault);
+    if (count < 10)
+        return refusal(13);
+    parts[0] = (uint16_t)x.circuit;
+    parts[1] = (uint16_t)x.type;
+    parts[2] = (uint16_t)x.fixed.start;
+    parts[3] = (uint16_t)x.fixed.length;
+    parts[4] = (uint16_t)x.variable[0].start;
+    parts[5] = (uint16_t)x.variable[0].length;
+    parts[6] = (uint16_t)x.variable[1].start;
+    parts[7] = (uint16_t)x.variable[1].length;
+    parts[8] = (uint16_t)x.optional.start;
+    parts[9] = (uint16_t)x.optional.length;
+    return 10;
+}
+
+/* ------------------------------------------------------------------------------------------------ optional runs */
+
+/* A run without its closing 0. 0, or 11: a name 0, or a parameter that passes its end. */
+static unsigned walk(const uint8_t *run, size_t length)
+{
+    for (size_t at = 0; at < length;) {
+        if (run[at] == 0 || length - at < 2 || length - at - 2 < run[at + 1])
+            return 11;
+        at += 2u + run[at + 1];
+    }
+    return 0;
+}
+
+/* The first parameter of that name in a run that is right; whether there is one. */
+static int search(const uint8_t *run, size_t length, uint32_t name, size_t *start, size_t *size)
+{
+    for (size_t at = 0; at < length; at += 2u + run[at + 1]) {
+        if (run[at] == name) {
+            *start = at + 2;
+            *size = run[at + 1];
+            return 1;
+        }
+    }
+    return 0;
+}
+
+/* The reader's, 11 for the defaults, 15, 13. */
+uint32_t plain_find(const uint8_t *message, size_t length, const uint8_t *defaults, size_t defaults_length,
+                    uint32_t name, size_t *stretch, size_t count)
+{
+    struct message x;
+    unsigned fault = parse(message, length, &x);
+    if (fault)
+        return refusal(fault);
+    if (walk(defaults, defaults_length))
+        return refusal(11);
+    size_t start, size;
+    uint32_t holder;
+    if (x.optional.length && search(message + x.optional.start, x.optional.length, name, &start, &size)) {
+        start += x.optional.start;
+        holder = 0;
+    } else if (search(defaults, defaults_length, name, &start, &size)) {
+        holder = 100;
+    } else {
+        return refusal(15);
+    }
+    if (count < 2)
+        return refusal(13);
+    stretch[0] = start;
+    stretch[1] = size;
+    return holder;
+}
+
+/* ------------------------------------------------------------------------------------------------ the writer */
+
+static uint8_t *put(uint8_t *at, const uint8_t *octets, size_t count)
+{
+    if (count)
+        memcpy(at, octets, count);
+    return at + count;
+}
+
+/* 12, 2, 13, then the compact form. The parts fit the shape. */
+static uint32_t compose(uint32_t circuit, uint32_t type, struct shape row, const uint8_t *fixed, const uint8_t *first,
+                        size_t first_length, const uint8_t *second, size_t second_length, const uint8_t *optional,
+                        size_t optional_length, uint8_t *out, size_t room)
+{
+    if (first_length > 255 || second_length > 255)
+        return refusal(12);
+    size_t end = 3u + row.fixed + row.variable + row.optional;
+    size_t second_at = end + 1 + first_length;
+    size_t optional_at = end + row.variable + first_length + second_length;
+    size_t second_pointer = second_at - (4u + row.fixed);
+    size_t optional_pointer = optional_length ? optional_at - (end - 1) : 0;
+    if ((row.variable == 2 && second_pointer > 255) || optional_pointer > 255)
+        return refusal(12);
+    if (optional_length > LONGEST)
+        return refusal(2);
+    size_t total = optional_at + (optional_length ? optional_length + 1 : 0);
+    if (total > LONGEST)
+        return refusal(2);
+    if (total > room)
+        return refusal(13);
+
+    uint8_t *at = out;
+    *at++ = (uint8_t)circuit;
+    *at++ = (uint8_t)(circuit >> 8);
+    *at++ = (uint8_t)type;
+    at = put(at, fixed, row.fixed);
+    if (row.variable >= 1)
+        *at++ = (uint8_t)(row.variable + row.optional);
+    if (row.variable == 2)
+        *at++ = (uint8_t)second_pointer;
+    if (row.optional)
+        *at++ = (uint8_t)optional_pointer;
+    if (row.variable >= 1) {
+        *at++ = (uint8_t)first_length;
+        at = put(at, first, first_length);
+    }
+    if (row.variable == 2) {
+        *at++ = (uint8_t)second_length;
+        at = put(at, second, second_length);
+    }
+    if (optional_length) {
+        at = put(at, optional, optional_length);
+        *at = 0;
+    }
+    return (uint32_t)total;
+}
+
+/* 9, 3, 10, 11, 12, 2, 13. */
+uint32_t plain_write(uint32_t circuit, uint32_t type, const uint8_t *fixed, size_t fixed_length, const uint8_t *first,
+                     size_t first_length, const uint8_t *second, size_t second_length, const uint8_t *optional,
+                     size_t optional_length, uint8_t *out, size_t room)
+{
+    if (circuit > 4095)
+        return refusal(9);
+    if (type > 255 || !shapes[type].known)
+        return refusal(3);
+    struct shape row = shapes[type];
+    if (fixed_length != row.fixed || (first_length && row.variable < 1) || (second_length && row.variable < 2) ||
+        (optional_length && !row.optional))
+        return refusal(10);
+    if (walk(optional, optional_length))
+        return refusal(11);
+    return compose(circuit, type, row, fixed, first, first_length, second, second_length, optional, optional_length, out,
+                   room);
+}
+
+/* The reader's, 12, 13. */
+uint32_t plain_compact(const uint8_t *message, size_t length, uint8_t *out, size_t room)
+{
+    struct message x;
+    unsigned fault = parse(message, length, &x);
+    if (fault)
+        return refusal(fault);
+    return compose(x.circuit, x.type, shapes[x.type], message + x.fixed.start, message + x.variable[0].start,
+                   x.variable[0].length, message + x.variable[1].start, x.variable[1].length,
+                   message + x.optional.start, x.optional.length, out, room);
+}
+
+/* ------------------------------------------------------------------------------------------------ called numbers */
+
+/* 14, 13. */
+uint64_t plain_number_read(const uint8_t *contents, size_t length, uint8_t *signals, size_t room)
+{
+    if (length < 2 || length > 2 + 16)
+        return (uint64_t)14 << 32;
+    unsigned octets = (unsigned)length - 2, odd = contents[0] >> 7;
+    if (odd && (octets == 0 || contents[length - 1] >> 4 != 0))
+        return (uint64_t)14 << 32;
+    unsigned count = 2 * octets - odd;
+    if (count > 30)
+        return (uint64_t)14 << 32;
+    if (count > room)
+        return (uint64_t)13 << 32;
+    for (unsigned i = 0; i < count / 2; i++) {
+        signals[2 * i] = contents[2 + i] & 15;
+        signals[2 * i + 1] = contents[2 + i] >> 4;
+    }
+    if (odd)
+        signals[count - 1] = contents[length - 1] & 15;
+    return 65536u * (contents[0] & 127u) + 4096u * (contents[1] >> 7) + 256u * (contents[1] >> 4 & 7u) + count;
+}
+
+/* 14, 13. */
+uint32_t plain_number_write(uint32_t nature, uint32_t plan, uint32_t internal, const uint8_t *signals, size_t count,
+                            uint8_t *out, size_t room)
+{
+    if (nature > 127 || plan > 7 || internal > 1 || count > 30)
+        return refusal(14);
+    for (size_t i = 0; i < count; i++)
+        if (signals[i] > 15)
+            return refusal(14);
+    size_t total = 2 + (count + 1) / 2;
+    if (total > room)
+        return refusal(13);
+    out[0] = (uint8_t)(128 * (count % 2) + nature);
+    out[1] = (uint8_t)(128 * internal + 16 * plan);
+    for (size_t i = 0; i < count / 2; i++)
+        out[2 + i] = (uint8_t)(signals[2 * i] | signals[2 * i + 1] << 4);
+    if (count % 2)
+        out[total - 1] = signals[count - 1];
+    return (uint32_t)total;
+}
+
+/* ------------------------------------------------------------------------------------------------ the hub */
+
+enum { BUSY = 1, MAINTENANCE = 2, HARDWARE = 4 };
+
+/* Legal states: 0, 1, 2, 3, 4, 6. */
+static int legal(unsigned state)
+{
+    return state <= 4 || state == 6;
+}
+
+/* 16, the reader's, 17, 14, 18, 19, 20, 21, 13. */
+uint32_t plain_act(uint8_t *states, size_t states_length, const uint8_t *owners, size_t owners_length, uint32_t sender,
+                   const uint8_t *message, size_t length, uint8_t *answer, size_t room)
+{
+    if (states_length != CIRCUITS || owners_length != CIRCUITS)
+        return refusal(16);
+    struct message x;
+    unsigned fault = parse(message, length, &x);
+    if (fault)
+        return refusal(fault);
+
+    const uint8_t *contents = message + x.variable[0].start;
+    unsigned size = x.variable[0].length;
+    unsigned range = 0, kind = 0, need;
+    switch (x.type) {
+    case IAM:
+        need = 0;
+        break;
+    case REL:
+    case RSC:
+        need = 4;
+        break;
+    case BLO:
+    case UBL:
+        need = 3;
+        break;
+    case GRS:
+        if (size != 1 || contents[0] < 1 || contents[0] > 31)
+            return refusal(14);
+        range = contents[0];
+        need = 6 + range / 8 + 1;
+        break;
+    case CGB:
+    case CGU:
+        kind = message[3] & 3;
+        if (kind > 1 || size < 1 || contents[0] < 1 || size != 1 + contents[0] / 8u + 1)
+            return refusal(14);
+        range = contents[0];
+        need = 7 + range / 8 + 1;
+        break;
+    default:
+        return refusal(17);
+    }
+
+    unsigned m = x.circuit;
+    if (m + range >= CIRCUITS)
+        return refusal(18);
+    if (sender == 0)
+        return refusal(19);
+    for (unsigned n = 0; n <= range; n++)
+        if (owners[m + n] != sender)
+            return refusal(19);
+    uint8_t *row = states + m;
+    for (unsigned n = 0; n <= range; n++)
+        if (!legal(row[n]))
+            return refusal(20);
+    if (x.type == IAM && row[0] != 0)
+        return refusal(21);
+    if (need > room)
+        return refusal(13);
+
+    if (need) {
+        answer[0] = (uint8_t)m;
+        answer[1] = (uint8_t)(m >> 8);
+    }
+    switch (x.type) {
+    case IAM:
+        row[0] = BUSY;
+        break;
+    case REL:
+        answer[2] = RLC;
+        answer[3] = 0;
+        row[0] &= (uint8_t)~BUSY;
+        break;
+    case RSC:
+        answer[2] = RLC;
+        answer[3] = 0;
+        row[0] = 0;
+        break;
+    case BLO:
+        answer[2] = BLA;
+        row[0] |= MAINTENANCE;
+        break;
+    case UBL:
+        answer[2] = UBA;
+        row[0] &= (uint8_t)~MAINTENANCE;
+        break;
+    case GRS:
+        answer[2] = GRA;
+        answer[3] = 1;
+        answer[4] = (uint8_t)(1 + range / 8 + 1);
+        answer[5] = (uint8_t)range;
+        memset(answer + 6, 0, range / 8 + 1);
+        memset(row, 0, range + 1);
+        break;
+    case CGB:
+    case CGU: {
+        const uint8_t *status = contents + 1;
+        answer[2] = x.type == CGB ? CGBA : CGUA;
+        answer[3] = (uint8_t)kind;
+        answer[4] = 1;
+        answer[5] = (uint8_t)(1 + range / 8 + 1);
+        answer[6] = (uint8_t)range;
+        memcpy(answer + 7, status, range / 8 + 1);
+        answer[7 + range / 8] &= (uint8_t)(255 >> (7 - range % 8));
+
+        unsigned block = kind == 0 ? MAINTENANCE : HARDWARE;
+        unsigned set = x.type == CGB ? block : 0;
+        unsigned keep = x.type == CGU ? 255 - block : kind == 0 ? 255 : 255 - BUSY;
+        /* By the answer's status, whose spare bits are 0. */
+        for (unsigned n = 0; n <= range; n += 8)
+            for (unsigned marks = answer[7 + n / 8], k = n; marks; marks >>= 1, k++)
+                if (marks & 1)
+                    row[k] = (uint8_t)((row[k] & keep) | set);
+        break;
+    }
+    }
+    return need;
+}

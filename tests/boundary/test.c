@@ -1,0 +1,1219 @@
+/* The boundary test: every function of the library against the plain code of this folder, on cases with the paper's numbers
+ * written beside them and on generated messages. Every lent buffer stands between guard octets, and all of it is compared
+ * after each call: with what the plain code left, and with what stood there before, but for the octets that were promised.
+ * Half of the time, what is only read stands at the end of a page instead, with no page behind it. */
+#define _DEFAULT_SOURCE
+#include <stdio.h>
+#include <string.h>
+#include <sys/mman.h>
+
+#include "llachurep.h"
+#include "plain.h"
+
+enum { MESSAGES = 200000, SHOWN = 10 };
+
+enum { READ, WRITE, COMPACT, FIND, NUMBER_READ, NUMBER_WRITE, ACT, FUNCTIONS };
+static const char *const names[FUNCTIONS] = {"read", "write", "compact", "find", "number_read", "number_write", "act"};
+
+static unsigned long checks, failures;
+static unsigned long seen[FUNCTIONS][32];
+static unsigned long types_read[256], types_acted[256];
+
+/* ------------------------------------------------------------------------------------------------ chance, always alike */
+
+static uint64_t seed = 0x9E3779B97F4A7C15u;
+
+static uint32_t chance(void)
+{
+    seed ^= seed << 13;
+    seed ^= seed >> 7;
+    seed ^= seed << 17;
+    return (uint32_t)(seed >> 24);
+}
+
+/* 0 to n-1. */
+static uint32_t below(uint32_t n)
+{
+    return (uint32_t)((uint64_t)chance() * n >> 32);
+}
+
+static uint32_t between(uint32_t low, uint32_t high)
+{
+    return low + below(high - low + 1);
+}
+
+/* One in n. */
+static int one_in(uint32_t n)
+{
+    return below(n) == 0;
+}
+
+static void noise(uint8_t *to, size_t count)
+{
+    for (size_t i = 0; i < count; i++)
+        to[i] = (uint8_t)chance();
+}
+
+/* ------------------------------------------------------------------------------------------------ what is lent */
+
+enum { GUARD = 24, ARENA = 8192 };
+
+/* The same octets three times: for the library, for the plain code, and as they were. */
+static uint8_t ours[ARENA], theirs[ARENA], before[ARENA];
+static size_t used;
+static int null_if_empty;
+
+/* Ends of pages, each with no page behind it; and the octets that stand at each in this call. */
+enum { PAGE = 65536, PAGES = 4 };
+static uint8_t *page_end[PAGES];
+static size_t page_place[PAGES], page_count[PAGES], pages_used;
+
+static void begin(void)
+{
+    used = GUARD;
+    pages_used = 0;
+    null_if_empty = one_in(2);
+}
+
+/* Octets to lend, between guards; 0 for `octets` leaves what stands there. Gives their place. */
+static size_t lend(const uint8_t *octets, size_t count)
+{
+    size_t place = used + below(8);
+    if (octets && count)
+        memcpy(before + place, octets, count);
+    used = place + count + GUARD;
+    return place;
+}
+
+static void ready(void)
+{
+    memcpy(ours, before, used);
+    memcpy(theirs, before, used);
+}
+
+static uint8_t *at(uint8_t *arena, size_t place, size_t count)
+{
+    return count == 0 && null_if_empty ? NULL : arena + place;
+}
+
+static int make_pages(void)
+{
+    for (int i = 0; i < PAGES; i++) {
+        uint8_t *two = mmap(NULL, 2 * PAGE, PROT_READ | PROT_WRITE, MAP_PRIVATE | MAP_ANONYMOUS, -1, 0);
+        if (two == MAP_FAILED || mprotect(two + PAGE, PAGE, PROT_NONE) != 0)
+            return 0;
+        page_end[i] = two + PAGE;
+    }
+    return 1;
+}
+
+/* What the library only reads: in the arena, or at the end of a page. */
+static const uint8_t *in(size_t place, size_t count)
+{
+    if (count == 0 || one_in(2))
+        return at(ours, place, count);
+    page_place[pages_used] = place;
+    page_count[pages_used] = count;
+    uint8_t *to = page_end[pages_used++] - count;
+    memcpy(to, before + place, count);
+    return to;
+}
+
+static int pages_kept(void)
+{
+    for (size_t i = 0; i < pages_used; i++)
+        if (memcmp(page_end[i] - page_count[i], before + page_place[i], page_count[i]) != 0)
+            return 0;
+    return 1;
+}
+
+/* Counts a failure; whether it is among those that are shown. */
+static int failed(const char *what)
+{
+    failures++;
+    if (failures <= SHOWN)
+        printf("FAILURE %lu: %s\n", failures, what);
+    return failures <= SHOWN;
+}
+
+static void show(const char *what, const uint8_t *octets, size_t count)
+{
+    if (failures > SHOWN)
+        return;
+    printf("  %s (%u)", what, (unsigned)count);
+    for (size_t i = 0; i < count; i++)
+        printf(" %02x", octets[i]);
+    printf("\n");
+}
+
+
+/* After a call: the answers, then the arena; `count` octets at `place` were promised. Gives 0 where there is a fault. */
+static int settle(int function, uint64_t got, uint64_t wanted, unsigned number, size_t place, size_t count)
+{
+    int good = 1;
+    checks++;
+    seen[function][number < 32 ? number : 31]++;
+    if (got != wanted) {
+        good = 0;
+        if (failed(names[function]))
+            printf("  answers %llx, plain %llx\n", (unsigned long long)got, (unsigned long long)wanted);
+    } else if (memcmp(ours, theirs, used) != 0) {
+        good = 0;
+        if (failed(names[function]))
+            printf("  leaves other octets than the plain code\n");
+    } else {
+        if (number == 0 && count)
+            memcpy(before + place, ours + place, count);
+        if (memcmp(ours, before, used) != 0 || !pages_kept()) {
+            good = 0;
+            if (failed(names[function]))
+                printf("  changes octets that are not promised\n");
+        }
+    }
+    return good;
+}
+
+/* ------------------------------------------------------------------------------------------------ one call of each */
+
+static uint32_t try_read(const uint8_t *message, size_t length, size_t count)
+{
+    enum { EDGE = 12 };
+    uint16_t mine[2 * EDGE + 16], other[2 * EDGE + 16], old[2 * EDGE + 16];
+    for (size_t i = 0; i < 2 * EDGE + 16; i++)
+        mine[i] = other[i] = old[i] = (uint16_t)(40000 + 77 * i);
+    begin();
+    size_t m = lend(message, length);
+    ready();
+    int null = count == 0 && null_if_empty;
+    uint32_t got = llachurep_read(in(m, length), length, null ? NULL : mine + EDGE, count);
+    uint32_t wanted = plain_read(at(theirs, m, length), length, null ? NULL : other + EDGE, count);
+    if (got >> 16 == 0) {
+        memcpy(old + EDGE, mine + EDGE, 10 * sizeof old[0]);
+        types_read[message[2]]++;
+    }
+    if (!settle(READ, got, wanted, got >> 16, 0, 0))
+        show("message", message, length);
+    else if (memcmp(mine, other, sizeof mine) != 0 || memcmp(mine, old, sizeof mine) != 0) {
+        if (failed("read leaves other numbers")) {
+            show("message", message, length);
+            for (int i = 0; i < 10; i++)
+                printf("  %u / %u\n", mine[EDGE + i], other[EDGE + i]);
+        }
+    }
+    return got;
+}
+
+static uint32_t try_find(const uint8_t *message, size_t length, const uint8_t *defaults, size_t defaults_length,
+                         uint32_t name, size_t count)
+{
+    enum { EDGE = 4 };
+    size_t mine[2 * EDGE + 4], other[2 * EDGE + 4], old[2 * EDGE + 4];
+    for (size_t i = 0; i < 2 * EDGE + 4; i++)
+        mine[i] = other[i] = old[i] = (size_t)0x1234567812345678u + 77 * i;
+    begin();
+    size_t m = lend(message, length), d = lend(defaults, defaults_length);
+    ready();
+    int null = count == 0 && null_if_empty;
+    uint32_t got = llachurep_find(in(m, length), length, in(d, defaults_length), defaults_length, name,
+                                  null ? NULL : mine + EDGE, count);
+    uint32_t wanted = plain_find(at(theirs, m, length), length, at(theirs, d, defaults_length), defaults_length, name,
+                                 null ? NULL : other + EDGE, count);
+    if (got >> 16 == 0)
+        memcpy(old + EDGE, mine + EDGE, 2 * sizeof old[0]);
+    int good = settle(FIND, got, wanted, got >> 16, 0, 0);
+    if (good && (memcmp(mine, other, sizeof mine) != 0 || memcmp(mine, old, sizeof mine) != 0)) {
+        failed("find leaves other numbers");
+        good = 0;
+    }
+    if (!good && failures <= SHOWN) {
+        show("message", message, length);
+        show("defaults", defaults, defaults_length);
+        printf("  name %u, found %lu %lu / %lu %lu\n", name, (unsigned long)mine[EDGE], (unsigned long)mine[EDGE + 1],
+               (unsigned long)other[EDGE], (unsigned long)other[EDGE + 1]);
+    }
+    return got;
+}
+
+static uint32_t try_compact(const uint8_t *message, size_t length, size_t room)
+{
+    begin();
+    size_t m = lend(message, length), o = lend(0, room);
+    ready();
+    uint32_t got = llachurep_compact(in(m, length), length, at(ours, o, room), room);
+    uint32_t wanted = plain_compact(at(theirs, m, length), length, at(theirs, o, room), room);
+    if (!settle(COMPACT, got, wanted, got >> 16, o, got & 65535))
+        show("message", message, length);
+    return got;
+}
+
+/* What the writer is given. */
+struct given {
+    uint32_t circuit, type;
+    size_t fixed_length, first_length, second_length, optional_length;
+    uint8_t fixed[16], first[400], second[400], optional[800];
+};
+
+static uint32_t try_write(const struct given *w, size_t room)
+{
+    begin();
+    size_t f = lend(w->fixed, w->fixed_length), a = lend(w->first, w->first_length), b = lend(w->second, w->second_length);
+    size_t p = lend(w->optional, w->optional_length), o = lend(0, room);
+    ready();
+    uint32_t got = llachurep_write(w->circuit, w->type, in(f, w->fixed_length), w->fixed_length, in(a, w->first_length),
+                                   w->first_length, in(b, w->second_length), w->second_length,
+                                   in(p, w->optional_length), w->optional_length, at(ours, o, room), room);
+    uint32_t wanted = plain_write(w->circuit, w->type, at(theirs, f, w->fixed_length), w->fixed_length,
+                                  at(theirs, a, w->first_length), w->first_length, at(theirs, b, w->second_length),
+                                  w->second_length, at(theirs, p, w->optional_length), w->optional_length,
+                                  at(theirs, o, room), room);
+    if (!settle(WRITE, got, wanted, got >> 16, o, got & 65535) && failures <= SHOWN) {
+        printf("  circuit %u, type %u, room %u\n", w->circuit, w->type, (unsigned)room);
+        show("fixed", w->fixed, w->fixed_length);
+        show("first", w->first, w->first_length);
+        show("second", w->second, w->second_length);
+        show("optional", w->optional, w->optional_length);
+    }
+    return got;
+}
+
+static uint64_t try_number_read(const uint8_t *contents, size_t length, size_t room)
+{
+    begin();
+    size_t c = lend(contents, length), s = lend(0, room);
+    ready();
+    uint64_t got = llachurep_number_read(in(c, length), length, at(ours, s, room), room);
+    uint64_t wanted = plain_number_read(at(theirs, c, length), length, at(theirs, s, room), room);
+    if (!settle(NUMBER_READ, got, wanted, LLACHUREP_NUMBER_REFUSAL(got), s, LLACHUREP_NUMBER_COUNT(got)))
+        show("contents", contents, length);
+    return got;
+}
+
+static uint32_t try_number_write(uint32_t nature, uint32_t plan, uint32_t internal, const uint8_t *signals, size_t count,
+                                 size_t room)
+{
+    begin();
+    size_t s = lend(signals, count), o = lend(0, room);
+    ready();
+    uint32_t got = llachurep_number_write(nature, plan, internal, in(s, count), count, at(ours, o, room), room);
+    uint32_t wanted = plain_number_write(nature, plan, internal, at(theirs, s, count), count, at(theirs, o, room), room);
+    if (!settle(NUMBER_WRITE, got, wanted, got >> 16, o, got & 65535) && failures <= SHOWN) {
+        printf("  nature %u, plan %u, internal %u, room %u\n", nature, plan, internal, (unsigned)room);
+        show("signals", signals, count);
+    }
+    return got;
+}
+
+/* The two tables, three times as above, with an octet to spare so that 4097 can be lent. */
+struct tables {
+    uint8_t guard0[GUARD], states[4097], guard1[GUARD], owners[4097], guard2[GUARD];
+};
+static struct tables ours_tables, theirs_tables, before_tables;
+static size_t states_length = 4096, owners_length = 4096;
+
+/* All three are as `before_tables`. */
+static void ready_tables(void)
+{
+    ours_tables = theirs_tables = before_tables;
+}
+
+/* The circuits that a message names, m to m+r: straight from the octets, for an accepted act. */
+static unsigned reach(const uint8_t *message)
+{
+    unsigned type = message[2];
+    if (type == 0x17)
+        return message[3 + message[3] + 1];
+    if (type == 0x18 || type == 0x19)
+        return message[4 + message[4] + 1];
+    return 0;
+}
+
+static uint32_t try_act(uint32_t sender, const uint8_t *message, size_t length, size_t room)
+{
+    begin();
+    size_t m = lend(message, length), a = lend(0, room);
+    ready();
+    int null = null_if_empty;
+    uint32_t got = llachurep_act(states_length || !null ? ours_tables.states : NULL, states_length,
+                                 owners_length || !null ? ours_tables.owners : NULL, owners_length, sender,
+                                 in(m, length), length, at(ours, a, room), room);
+    uint32_t wanted = plain_act(states_length || !null ? theirs_tables.states : NULL, states_length,
+                                owners_length || !null ? theirs_tables.owners : NULL, owners_length, sender,
+                                at(theirs, m, length), length, at(theirs, a, room), room);
+    int good = settle(ACT, got, wanted, got >> 16, a, got & 65535);
+    if (good && memcmp(&ours_tables, &theirs_tables, sizeof ours_tables) != 0) {
+        failed("act leaves another table than the plain code");
+        good = 0;
+    }
+    if (got >> 16 == 0 && length >= 3) {
+        unsigned first = message[0] + 256u * (message[1] & 15u);
+        memcpy(before_tables.states + first, ours_tables.states + first, reach(message) + 1);
+        types_acted[message[2]]++;
+    }
+    if (good && memcmp(&ours_tables, &before_tables, sizeof ours_tables) != 0) {
+        failed("act changes rows that are not named");
+        good = 0;
+    }
+    if (!good) {
+        if (failures <= SHOWN) {
+            printf("  sender %u, room %u\n", sender, (unsigned)room);
+            show("message", message, length);
+        }
+        theirs_tables = ours_tables;
+        before_tables = ours_tables;
+    }
+    return got;
+}
+
+/* ------------------------------------------------------------------------------------------------ cases with their numbers */
+
+static uint8_t octets[1200];
+
+/* Octets of hexadecimal text; `*N` after an octet repeats it, so that it stands N times (decimal). */
+static size_t hex(const char *text, uint8_t *to)
+{
+    size_t count = 0;
+    while (*text) {
+        if (*text == ' ') {
+            text++;
+            continue;
+        }
+        if (*text == '*') {
+            unsigned times = 0;
+            for (text++; *text >= '0' && *text <= '9'; text++)
+                times = 10 * times + (unsigned)(*text - '0');
+            uint8_t last = to[--count];
+            while (times--)
+                to[count++] = last;
+            continue;
+        }
+        unsigned value = 0;
+        for (int i = 0; i < 2; i++, text++)
+            value = 16 * value + (unsigned)(*text <= '9' ? *text - '0' : (*text | 32) - 'a' + 10);
+        to[count++] = (uint8_t)value;
+    }
+    return count;
+}
+
+static void want(const char *what, const char *input, uint64_t got, uint64_t wanted)
+{
+    checks++;
+    if (got != wanted && failed(what))
+        printf("  %s\n  answers %llx, wanted %llx\n", input, (unsigned long long)got, (unsigned long long)wanted);
+}
+
+/* The first octets of the last call's output, which stood last in the arena. */
+static void want_octets(const char *what, const char *input, size_t room, const char *wanted)
+{
+    static uint8_t other[600];
+    size_t count = hex(wanted, other);
+    checks++;
+    if (memcmp(ours + used - GUARD - room, other, count) != 0 && failed(what))
+        printf("  %s\n  does not leave %s\n", input, wanted);
+}
+
+#define REFUSED(n) ((uint32_t)(n) << 16)
+
+static void reads(const char *text, uint32_t wanted, const uint16_t *parts)
+{
+    size_t length = hex(text, octets);
+    want("read", text, try_read(octets, length, 10), wanted ? REFUSED(wanted) : 10);
+    if (parts) {
+        uint16_t got[10];
+        checks++;
+        llachurep_read(octets, length, got, 10);
+        if (memcmp(got, parts, sizeof got) != 0 && failed("read: the ten numbers"))
+            printf("  %s\n", text);
+    }
+    /* With too little room: the reader's numbers, then 13. */
+    for (size_t count = 0; count <= 12; count++)
+        want("read, count", text, try_read(octets, length, count),
+             wanted ? REFUSED(wanted) : count < 10 ? REFUSED(13) : 10);
+    /* The functions over the reader give its numbers too. */
+    if (wanted) {
+        want("compact", text, try_compact(octets, length, 268), REFUSED(wanted));
+        want("compact", text, try_compact(octets, length, 0), REFUSED(wanted));
+        want("find", text, try_find(octets, length, (const uint8_t *)"\x20", 1, 0x20, 0), REFUSED(wanted));
+        want("act", text, try_act(0, octets, length, 0), REFUSED(wanted));
+    }
+}
+
+#define PARTS(...) ((const uint16_t[10]){__VA_ARGS__})
+
+static void reader_cases(void)
+{
+    reads("", 1, 0);
+    reads("05", 1, 0);
+    reads("05 00", 1, 0);
+    reads("23 01 13", 0, PARTS(291, 0x13));
+    reads("23 f1 13", 0, PARTS(291, 0x13));
+    reads("01 00 09 00*264", 0, PARTS(1, 9));                                   /* 267 octets */
+    reads("01 00 09 00*265", 0, PARTS(1, 9));                                   /* 268 */
+    reads("01 00 09 00*266", 2, 0);                                             /* 269 */
+    reads("01 00 03 00*266", 2, 0);
+    reads("01 00 00", 3, 0);
+    reads("01 00 03 00*265", 3, 0);
+    reads("01 00 09", 4, 0);
+    reads("01 00 17", 4, 0);
+    reads("01 00 18 00", 4, 0);
+    reads("01 00 05", 4, 0);
+    reads("01 00 01 00 60 01 0A 00 02", 4, 0);
+    reads("01 00 2B 01", 4, 0);
+    reads("05 00 17 01 01 03", 0, PARTS(5, 0x17, 0, 0, 5, 1));
+    reads("05 00 17 00 01 03", 5, 0);
+    reads("05 00 17 02 01 00", 0, PARTS(5, 0x17, 0, 0, 6, 0));                  /* there, but empty */
+    reads("05 00 17 03 01 03", 5, 0);
+    reads("05 00 17 01 02 03", 6, 0);
+    reads("01 00 0C 01 00", 5, 0);
+    reads("01 00 0C 02 00 02 80 90", 0, PARTS(1, 0x0C, 0, 0, 6, 2));
+    reads("01 00 0C 02 00 03 80 90", 6, 0);
+    reads("01 00 0C 02 01 01 00 00", 8, 0);
+    reads("01 00 0C 02 02 00 00", 0, PARTS(1, 0x0C, 0, 0, 6, 0, 0, 0, 6, 0));   /* only its closing 0 */
+    reads("01 00 0C 03 01 00 00", 0, PARTS(1, 0x0C, 0, 0, 7, 0, 0, 0, 5, 0));   /* the other way round, touching */
+    reads("01 00 09 01", 5, 0);
+    reads("01 00 09 01 00", 0, PARTS(1, 9, 0, 0, 0, 0, 0, 0, 4, 0));
+    reads("01 00 09 02 00", 5, 0);
+    reads("01 00 09 01 20 01 41 00", 0, PARTS(1, 9, 0, 0, 0, 0, 0, 0, 4, 3));
+    reads("01 00 09 01 20 01 41", 7, 0);
+    reads("01 00 09 01 20", 7, 0);
+    reads("01 00 09 01 20 03 41 00", 7, 0);
+    reads("01 00 09 01 20 ff 41 00", 7, 0);
+    reads("01 00 2B 02 03 01 55 02 66 77", 0, PARTS(1, 0x2B, 0, 0, 6, 1, 8, 2));
+    reads("01 00 2B 02 01 01 55 02 66 77", 8, 0);
+    reads("01 00 2B 04 01 01 55 01 66", 0, PARTS(1, 0x2B, 0, 0, 8, 1, 6, 1));
+    reads("01 00 2B 02 02 02 01 66 77", 8, 0);
+    reads("01 00 2B 01 02 02 01 66 77", 5, 0);
+    reads("01 00 2B 02 00 01 55 01 66", 5, 0);
+    reads("01 00 2B 02 09 04 55 01 66", 6, 0);
+    reads("01 00 2B 02 03 01 55 03 66 77", 6, 0);
+    reads("01 00 05 07", 0, PARTS(1, 5, 3, 1));
+    reads("01 00 06 07 08 00", 0, PARTS(1, 6, 3, 2));
+    reads("01 00 01 00 60 01 0A 00 02 00 04 03 10 21 43", 0, PARTS(1, 1, 3, 5, 11, 4));
+    reads("ff ff 0C 02 00 ff 11*255", 0, PARTS(4095, 0x0C, 0, 0, 6, 255));
+    reads("ff ff 0C 02 ff fd 11*253 00*9", 0, PARTS(4095, 0x0C, 0, 0, 6, 253, 0, 0, 259, 0));  /* 268, pointer 255 */
+    reads("ff ff 0C 02 ff ff 11*253 00*9", 8, 0);
+    reads("ff ff 0C 02 00 ff 11*254", 6, 0);
+}
+
+static void writes(const struct given *w, uint32_t wanted, uint32_t size)
+{
+    want("write", "the case", try_write(w, 800), wanted ? REFUSED(wanted) : size);
+    if (wanted) {
+        want("write, no room", "the case", try_write(w, 0), REFUSED(wanted));
+        return;
+    }
+    want("write, room exact", "the case", try_write(w, size), size);
+    want("write, room one more", "the case", try_write(w, size + 1), size);
+    want("write, room one short", "the case", try_write(w, size - 1), REFUSED(13));
+    want("write, no room", "the case", try_write(w, 0), REFUSED(13));
+}
+
+static struct given give(uint32_t circuit, uint32_t type, const char *fixed, const char *first, const char *second,
+                         const char *optional)
+{
+    static struct given w;
+    w.circuit = circuit;
+    w.type = type;
+    w.fixed_length = hex(fixed, w.fixed);
+    w.first_length = hex(first, w.first);
+    w.second_length = hex(second, w.second);
+    w.optional_length = hex(optional, w.optional);
+    return w;
+}
+
+static void writer_cases(void)
+{
+    static const struct {
+        uint32_t circuit, type;
+        const char *fixed, *first, *second, *optional;
+        uint32_t wanted, size;
+        const char *octets;
+    } cases[] = {
+        {291, 0x13, "", "", "", "", 0, 3, "23 01 13"},
+        {4095, 0x13, "", "", "", "", 0, 3, "ff 0f 13"},
+        {4096, 0x13, "", "", "", "", 9, 0, 0},
+        {4096, 0x03, "00", "", "", "00", 9, 0, 0},
+        {0xffffffff, 0x13, "", "", "", "", 9, 0, 0},
+        {65537, 0x13, "", "", "", "", 9, 0, 0},
+        {1, 0x03, "00", "", "", "00", 3, 0, 0},
+        {1, 0x113, "", "", "", "", 3, 0, 0},
+        {1, 0xffffffff, "", "", "", "", 3, 0, 0},
+        {1, 256, "", "", "", "", 3, 0, 0},
+        {1, 0x13, "00", "", "", "", 10, 0, 0},
+        {1, 0x13, "", "00", "", "", 10, 0, 0},
+        {1, 0x17, "", "01", "00", "", 10, 0, 0},
+        {1, 0x17, "", "01", "", "00", 10, 0, 0},
+        {1, 0x05, "", "", "", "", 10, 0, 0},
+        {1, 0x05, "01 02", "", "", "", 10, 0, 0},
+        {1, 0x05, "01", "", "", "", 0, 4, "01 00 05 01"},
+        {1, 0x0c, "", "", "", "00", 11, 0, 0},
+        {1, 0x0c, "", "", "", "20", 11, 0, 0},
+        {1, 0x0c, "", "", "", "20 02 41", 11, 0, 0},
+        {1, 0x0c, "", "", "", "20 01 41 00", 11, 0, 0},
+        {1, 0x0c, "", "00*300", "", "20 02 41", 11, 0, 0},
+        {1, 0x0c, "", "80 90", "", "20 01 41", 0, 12, "01 00 0c 02 04 02 80 90 20 01 41 00"},
+        {1, 0x09, "", "", "", "", 0, 4, "01 00 09 00"},
+        {1, 0x0c, "", "", "", "", 0, 6, "01 00 0c 02 00 00"},
+        {1, 0x0c, "", "11*253", "", "20 00", 0, 262, "01 00 0c 02 ff fd 11*253 20 00 00"},
+        {1, 0x0c, "", "11*254", "", "20 00", 12, 0, 0},
+        {1, 0x0c, "", "11*254", "", "", 0, 260, "01 00 0c 02 00 fe 11*254"},
+        {1, 0x0c, "", "11*255", "", "", 0, 261, "01 00 0c 02 00 ff 11*255"},
+        {1, 0x0c, "", "11*256", "", "", 12, 0, 0},
+        {1, 0x0c, "", "11*256", "", "20 ff 05*255 20 ff 05*255", 12, 0, 0},
+        {1, 0x2b, "", "11*253", "22*6", "", 0, 266, "01 00 2b 02 ff fd 11*253 06 22*6"},
+        {1, 0x2b, "", "11*253", "22*7", "", 0, 267, 0},
+        {1, 0x2b, "", "11*253", "22*8", "", 0, 268, 0},
+        {1, 0x2b, "", "11*253", "22*9", "", 2, 0, 0},
+        {1, 0x2b, "", "11*254", "22*1", "", 12, 0, 0},
+        {1, 0x2b, "", "", "22*255", "", 0, 262, 0},
+        {1, 0x2b, "", "", "22*256", "", 12, 0, 0},
+        {1, 0x2b, "", "11*200", "22*255", "", 2, 0, 0},
+        {1, 0x09, "", "", "", "20 ff 05*255", 0, 262, 0},
+        {1, 0x09, "", "", "", "20 ff 05*255 21 03 06*3", 0, 267, 0},
+        {1, 0x09, "", "", "", "20 ff 05*255 21 04 06*4", 0, 268, 0},
+        {1, 0x09, "", "", "", "20 ff 05*255 21 05 06*5", 2, 0, 0},
+        {1, 0x01, "00 60 01 0a 00", "03 10 21 43", "", "", 0, 15, "01 00 01 00 60 01 0a 00 02 00 04 03 10 21 43"},
+        {5, 0x1a, "00", "09 01 02", "", "", 0, 9, "05 00 1a 00 01 03 09 01 02"},
+    };
+    for (size_t i = 0; i < sizeof cases / sizeof cases[0]; i++) {
+        static struct given w;
+        w = give(cases[i].circuit, cases[i].type, cases[i].fixed, cases[i].first, cases[i].second, cases[i].optional);
+        writes(&w, cases[i].wanted, cases[i].size);
+        if (cases[i].octets) {
+            try_write(&w, cases[i].size);
+            want_octets("write", "the case", cases[i].size, cases[i].octets);
+        }
+    }
+}
+
+static void compacts(const char *text, uint32_t wanted, const char *compact)
+{
+    static uint8_t other[600];
+    size_t length = hex(text, octets);
+    if (wanted) {
+        want("compact", text, try_compact(octets, length, 268), REFUSED(wanted));
+        want("compact", text, try_compact(octets, length, 0), REFUSED(wanted));
+        return;
+    }
+    uint32_t size = (uint32_t)hex(compact, other);
+    want("compact, room one more", text, try_compact(octets, length, size + 1), size);
+    want("compact, room one short", text, try_compact(octets, length, size - 1), REFUSED(13));
+    want("compact, no room", text, try_compact(octets, length, 0), REFUSED(13));
+    want("compact, room exact", text, try_compact(octets, length, size), size);
+    want_octets("compact", text, size, compact);
+}
+
+static void compact_cases(void)
+{
+    compacts("01 00 09 01 00", 0, "01 00 09 00");
+    compacts("01 f0 09 03 ff ff 20 01 41 00 55", 0, "01 00 09 01 20 01 41 00");
+    compacts("01 00 0C 03 01 00 01 77", 0, "01 00 0c 02 00 01 77");
+    compacts("01 00 2B 05 01 02 66 77 01 55", 0, "01 00 2b 02 03 01 55 02 66 77");
+    compacts("23 f1 13 aa bb", 0, "23 01 13");
+    compacts("01 00 0C 02 00 03 80 90", 6, 0);
+    /* Optional part first, then 254 octets: the compact form would need a pointer of 256. */
+    compacts("01 00 0C 05 01 20 00 00 fe 11*254", 12, 0);
+    compacts("01 00 0C 04 01 00 00 fe 11*254", 0, "01 00 0c 02 00 fe 11*254");
+}
+
+static void finds(const char *message, const char *defaults, uint32_t name, uint32_t wanted, size_t start, size_t size)
+{
+    static uint8_t other[600];
+    size_t length = hex(message, octets), defaults_length = hex(defaults, other);
+    for (size_t count = 0; count <= 3; count++)
+        want("find", message, try_find(octets, length, other, defaults_length, name, count),
+             wanted >= 65536 || count >= 2 ? wanted : REFUSED(13));
+    if (wanted < 65536) {
+        size_t stretch[2];
+        checks++;
+        llachurep_find(octets, length, other, defaults_length, name, stretch, 2);
+        if ((stretch[0] != start || stretch[1] != size) && failed("find: start and length"))
+            printf("  %s\n", message);
+    }
+}
+
+static void find_cases(void)
+{
+    finds("01 00 09 01 20 01 41 00", "", 0x20, 0, 6, 1);
+    finds("01 00 09 01 20 01 41 20 02 42 43 00", "", 0x20, 0, 6, 1);
+    finds("01 00 09 01 21 01 41 20 02 42 43 00", "20 00", 0x20, 0, 9, 2);
+    finds("01 00 09 01 20 00 00 00", "20 01 41", 0x20, 0, 6, 0);
+    finds("01 00 09 00", "21 01 55 20 01 41", 0x20, 100, 5, 1);
+    finds("23 01 13", "20 01 41 20 00", 0x20, 100, 2, 1);
+    finds("23 01 13", "20 00", 0x20, 100, 2, 0);
+    finds("23 01 13", "", 0x20, REFUSED(15), 0, 0);
+    finds("23 01 13", "20 01 41", 0x21, REFUSED(15), 0, 0);
+    finds("23 01 13", "20 01 41", 0x120, REFUSED(15), 0, 0);
+    finds("01 00 09 01 20 01 41 00", "20 01 41", 0, REFUSED(15), 0, 0);
+    finds("01 00 09 01 20 01 41 00", "20 01 41", 0xffffffff, REFUSED(15), 0, 0);
+    finds("01 00 09 01 20 01 41 00", "20 01 41", 256, REFUSED(15), 0, 0);
+    finds("01 00 09 01 20 01 41 00", "20", 0x20, REFUSED(11), 0, 0);
+    finds("01 00 09 01 20 01 41 00", "20 02 41", 0x20, REFUSED(11), 0, 0);
+    finds("01 00 09 01 20 01 41 00", "20 01 41 00", 0x20, REFUSED(11), 0, 0);
+    finds("01 00 09 01 20 01 41 00", "00 01", 0, REFUSED(11), 0, 0);
+    finds("01 00 09 01 20 01 41", "20", 0x20, REFUSED(7), 0, 0);
+    finds("23 01 13", "21 ff 05*255 20 ff 06*255", 0x20, 100, 259, 255);
+}
+
+static void number_reads(const char *text, unsigned number, unsigned nature, unsigned internal, unsigned plan,
+                         const char *signals)
+{
+    static uint8_t other[64];
+    size_t length = hex(text, octets), count = hex(signals, other);
+    uint64_t wanted = 65536u * nature + 4096u * internal + 256u * plan + count;
+    if (number) {
+        want("number_read", text, try_number_read(octets, length, 64), (uint64_t)number << 32);
+        want("number_read", text, try_number_read(octets, length, 0), (uint64_t)number << 32);
+        return;
+    }
+    want("number_read, room one more", text, try_number_read(octets, length, count + 1), wanted);
+    if (count)
+        want("number_read, room one short", text, try_number_read(octets, length, count - 1), (uint64_t)13 << 32);
+    want("number_read, room exact", text, try_number_read(octets, length, count), wanted);
+    want_octets("number_read", text, count, signals);
+    want("number_read, fields", text, LLACHUREP_NUMBER_NATURE(wanted) == nature &&
+         LLACHUREP_NUMBER_INTERNAL(wanted) == internal && LLACHUREP_NUMBER_PLAN(wanted) == plan &&
+         LLACHUREP_NUMBER_COUNT(wanted) == count && LLACHUREP_NUMBER_REFUSAL(wanted) == 0, 1);
+}
+
+static void number_writes(uint32_t nature, uint32_t plan, uint32_t internal, const char *signals, unsigned number,
+                          const char *text)
+{
+    static uint8_t other[64];
+    size_t count = hex(signals, octets);
+    if (number) {
+        want("number_write", signals, try_number_write(nature, plan, internal, octets, count, 64), REFUSED(number));
+        want("number_write", signals, try_number_write(nature, plan, internal, octets, count, 0), REFUSED(number));
+        return;
+    }
+    uint32_t size = (uint32_t)hex(text, other);
+    want("number_write, one more", signals, try_number_write(nature, plan, internal, octets, count, size + 1), size);
+    want("number_write, one short", signals, try_number_write(nature, plan, internal, octets, count, size - 1), REFUSED(13));
+    want("number_write, no room", signals, try_number_write(nature, plan, internal, octets, count, 0), REFUSED(13));
+    want("number_write, exact", signals, try_number_write(nature, plan, internal, octets, count, size), size);
+    want_octets("number_write", signals, size, text);
+}
+
+static void number_cases(void)
+{
+    number_reads("", 14, 0, 0, 0, "");
+    number_reads("03", 14, 0, 0, 0, "");
+    number_reads("03 10", 0, 3, 0, 1, "");
+    number_reads("83 10", 14, 0, 0, 0, "");
+    number_reads("83 10 21 03", 0, 3, 0, 1, "01 02 03");
+    number_reads("83 1f 21 03", 0, 3, 0, 1, "01 02 03");
+    number_reads("03 10 21 43", 0, 3, 0, 1, "01 02 03 04");
+    number_reads("83 10 21 13", 14, 0, 0, 0, "");
+    number_reads("7f f0 fe", 0, 127, 1, 7, "0e 0f");
+    number_reads("80 00 0a", 0, 0, 0, 0, "0a");
+    number_reads("03 10 11*15", 0, 3, 0, 1, "01*30");
+    number_reads("83 10 11*14 01", 0, 3, 0, 1, "01*29");
+    number_reads("03 10 11*16", 14, 0, 0, 0, "");
+    number_reads("83 10 11*15 01", 14, 0, 0, 0, "");
+    number_reads("03 10 11*253", 14, 0, 0, 0, "");
+    number_writes(3, 1, 0, "01 02 03", 0, "83 10 21 03");
+    number_writes(3, 1, 0, "", 0, "03 10");
+    number_writes(127, 7, 1, "0f 0e", 0, "7f f0 ef");
+    number_writes(0, 0, 0, "05", 0, "80 00 05");
+    number_writes(3, 1, 0, "01*29", 0, "83 10 11*14 01");
+    number_writes(3, 1, 0, "01*30", 0, "03 10 11*15");
+    number_writes(3, 1, 0, "01*31", 14, 0);
+    number_writes(3, 1, 0, "01*32", 14, 0);
+    number_writes(128, 1, 0, "01", 14, 0);
+    number_writes(259, 1, 0, "01", 14, 0);
+    number_writes(0xffffffff, 1, 0, "01", 14, 0);
+    number_writes(3, 8, 0, "01", 14, 0);
+    number_writes(3, 257, 0, "01", 14, 0);
+    number_writes(3, 1, 2, "01", 14, 0);
+    number_writes(3, 1, 0x10000, "01", 14, 0);
+    number_writes(3, 1, 0, "10", 14, 0);
+    number_writes(3, 1, 0, "01 02 ff", 14, 0);
+}
+
+/* Circuits 0 to 4095: all the sender's, all rows `state`, but for the circuit `odd_one`, whose owner and state are given. */
+static void table(unsigned owner, unsigned state, unsigned odd_one, unsigned odd_owner, unsigned odd_state)
+{
+    memset(before_tables.owners, (int)owner, 4096);
+    memset(before_tables.states, (int)state, 4096);
+    before_tables.owners[4096] = (uint8_t)owner;
+    before_tables.states[4096] = (uint8_t)state;
+    before_tables.owners[odd_one] = (uint8_t)odd_owner;
+    before_tables.states[odd_one] = (uint8_t)odd_state;
+    ready_tables();
+}
+
+/* On rows of `state`: the answer at every room, and the row `look` afterwards. */
+static void acts(const char *text, unsigned state, const char *answer, unsigned look, unsigned becomes)
+{
+    static uint8_t other[64];
+    size_t length = hex(text, octets);
+    uint32_t size = (uint32_t)hex(answer, other);
+    table(7, state, 4096, 7, state);
+    if (size) {
+        want("act, room one short", text, try_act(7, octets, length, size - 1), REFUSED(13));
+        want("act, no room", text, try_act(7, octets, length, 0), REFUSED(13));
+    }
+    want("act, room exact", text, try_act(7, octets, length, size), size);
+    want_octets("act", text, size, answer);
+    want("act, the row", text, ours_tables.states[look], becomes);
+    table(7, state, 4096, 7, state);
+    want("act, room one more", text, try_act(7, octets, length, size + 1), size);
+    want("act, the row", text, ours_tables.states[look], becomes);
+}
+
+static void act_refused(const char *text, uint32_t sender, uint32_t wanted)
+{
+    size_t length = hex(text, octets);
+    want("act", text, try_act(sender, octets, length, 268), REFUSED(wanted));
+    want("act, no room", text, try_act(sender, octets, length, 0), REFUSED(wanted));
+}
+
+static void act_cases(void)
+{
+    static const size_t lengths[] = {0, 1, 4095, 4096, 4097};
+    table(7, 0, 4096, 7, 0);
+    for (int i = 0; i < 5; i++)
+        for (int j = 0; j < 5; j++) {
+            states_length = lengths[i];
+            owners_length = lengths[j];
+            if (i == 3 && j == 3)
+                continue;
+            act_refused("23 01 13", 7, 16);
+            act_refused("", 7, 16);
+        }
+    states_length = owners_length = 4096;
+
+    acts("05 00 17 01 01 03", 6, "05 00 29 01 02 03 00", 8, 0);
+    acts("05 00 17 01 01 03", 6, "05 00 29 01 02 03 00", 9, 6);
+    acts("05 00 17 01 01 07", 1, "05 00 29 01 02 07 00", 12, 0);
+    acts("05 00 17 01 01 08", 1, "05 00 29 01 03 08 00 00", 13, 0);
+    acts("05 00 17 01 01 1f", 1, "05 00 29 01 05 1f 00 00 00 00", 36, 0);
+    acts("E0 0F 17 01 01 1F", 4, "e0 0f 29 01 05 1f 00 00 00 00", 4095, 0);
+    acts("23 01 13", 0, "23 01 15", 291, 2);
+    acts("23 f1 13", 4, "23 01 15", 291, 6);
+    acts("ff 0f 14", 3, "ff 0f 16", 4095, 1);
+    acts("01 00 0C 02 00 02 80 90", 3, "01 00 10 00", 1, 2);
+    acts("01 00 12", 6, "01 00 10 00", 1, 0);
+    acts("01 00 01 00 60 01 0A 00 02 00 04 03 10 21 43", 0, "", 1, 1);
+    acts("01 00 01 00 60 01 0A 00 02 00 00", 0, "", 1, 1);
+    acts("08 00 18 00 01 03 09 01 02", 0, "08 00 1a 00 01 03 09 01 02", 8, 2);
+    acts("08 00 18 00 01 03 09 01 02", 0, "08 00 1a 00 01 03 09 01 02", 17, 2);
+    acts("08 00 18 00 01 03 09 01 02", 1, "08 00 1a 00 01 03 09 01 02", 9, 1);
+    acts("08 00 18 fd 01 03 09 01 fe", 1, "08 00 1a 01 01 03 09 01 02", 17, 4);
+    acts("08 00 18 01 01 03 09 01 02", 3, "08 00 1a 01 01 03 09 01 02", 8, 6);
+    acts("08 00 19 00 01 03 09 01 02", 6, "08 00 1b 00 01 03 09 01 02", 17, 4);
+    acts("08 00 19 01 01 03 09 01 02", 6, "08 00 1b 01 01 03 09 01 02", 17, 2);
+    acts("00 00 18 01 01 21 ff ff*32", 3, "00 00 1a 01 01 21 ff ff*32", 255, 6);
+    acts("00 0f 19 00 01 21 ff ff*32", 2, "00 0f 1b 00 01 21 ff ff*32", 4095, 0);
+
+    table(7, 0, 4096, 7, 0);
+    act_refused("01 00 10 00", 7, 17);
+    act_refused("01 00 15", 0, 17);
+    act_refused("01 00 2A 01 01 03", 7, 17);
+    act_refused("05 00 17 01 01 00", 7, 14);
+    act_refused("05 00 17 01 01 20", 7, 14);
+    act_refused("05 00 17 01 02 03 00", 7, 14);
+    act_refused("05 00 17 01 00", 7, 14);
+    act_refused("08 00 18 02 01 03 09 01 02", 7, 14);
+    act_refused("08 00 18 03 01 03 09 01 02", 7, 14);
+    act_refused("08 00 18 00 01 00", 7, 14);
+    act_refused("08 00 18 00 01 02 00 01", 7, 14);
+    act_refused("08 00 18 00 01 02 09 01", 7, 14);
+    act_refused("08 00 19 00 01 04 09 01 02 03", 7, 14);
+    act_refused("ff 0f 19 00 01 04 09 01 02 03", 0, 14);
+    act_refused("FF 0F 17 01 01 01", 7, 18);
+    act_refused("FF 0F 17 01 01 01", 0, 18);
+    act_refused("E1 0F 17 01 01 1F", 7, 18);
+    act_refused("01 0F 18 00 01 21 ff 00*32", 7, 18);
+    act_refused("23 01 13", 0, 19);
+    act_refused("23 01 13", 6, 19);
+    act_refused("23 01 13", 263, 19);
+    act_refused("23 01 13", 0xffffff07, 19);
+    act_refused("00 00 18 00 01 21 ff 00*32", 8, 19);
+    table(0, 0, 4096, 0, 0);
+    act_refused("23 01 13", 0, 19);
+    act_refused("23 01 13", 256, 19);
+    /* One foreign circuit, one row that is not legal: first, inside, last of the group, and just outside. */
+    static const unsigned odd[] = {5, 6, 7, 8};
+    for (int i = 0; i < 4; i++) {
+        table(7, 0, odd[i], 9, 5);
+        act_refused("05 00 17 01 01 03", 7, 19);
+        act_refused("05 00 18 00 01 02 03 00", 7, 19);
+        table(7, 0, odd[i], 7, 5);
+        act_refused("05 00 17 01 01 03", 7, 20);
+        act_refused("05 00 19 01 01 02 03 00", 7, 20);
+    }
+    table(7, 0, 9, 9, 5);
+    want("act", "one past the group", try_act(7, octets, hex("05 00 17 01 01 03", octets), 268), 7);
+    table(7, 0, 4, 9, 5);
+    want("act", "one before the group", try_act(7, octets, hex("05 00 17 01 01 03", octets), 268), 7);
+    for (unsigned state = 0; state < 256; state++) {
+        int good = state <= 4 || state == 6;
+        table(255, 0, 1, 255, state);
+        want("act, IAM", "each state", try_act(255, octets, hex("01 00 01 00 60 01 0A 00 02 00 00", octets), 0),
+             state == 0 ? 0 : good ? REFUSED(21) : REFUSED(20));
+        want("act, RSC", "each state", try_act(255, octets, hex("01 00 12", octets), 4), good ? 4 : REFUSED(20));
+    }
+    table(7, 0, 1, 9, 5);
+    act_refused("01 00 01 00 60 01 0A 00 02 00 00", 7, 19);
+}
+
+/* ------------------------------------------------------------------------------------------------ generated messages */
+
+static const uint8_t types[24] = {0x01, 0x02, 0x05, 0x06, 0x07, 0x09, 0x0C, 0x0D, 0x0E, 0x10, 0x12, 0x13,
+                                  0x14, 0x15, 0x16, 0x17, 0x18, 0x19, 0x1A, 0x1B, 0x29, 0x2A, 0x2B, 0x2C};
+static const uint8_t acted[8] = {0x01, 0x0C, 0x12, 0x13, 0x14, 0x17, 0x18, 0x19};
+static const uint8_t parameter_names[8] = {0x01, 0x03, 0x20, 0x20, 0x20, 0x80, 0xFF, 0x01};
+static const uint8_t owners_of_zones[8] = {1, 2, 3, 7, 200, 255, 0, 7};
+static const uint8_t legal_states[6] = {0, 1, 2, 3, 4, 6};
+
+/* The table's columns, once more. */
+static void shape_of(unsigned type, size_t *fixed, size_t *variable, int *optional)
+{
+    *fixed = type == 0x01 ? 5 : type == 0x06 || type == 0x07 ? 2 :
+             type == 0x05 || type == 0x0D || type == 0x0E || type == 0x2C || (type >= 0x18 && type <= 0x1B) ? 1 : 0;
+    *variable = type == 0x2B ? 2 : type == 0x01 || type == 0x02 || type == 0x0C || (type >= 0x17 && type <= 0x1B) ||
+                type == 0x29 || type == 0x2A ? 1 : 0;
+    *optional = type == 0x01 || type == 0x02 || type == 0x06 || type == 0x07 || type == 0x09 || type == 0x0C ||
+                type == 0x0D || type == 0x0E || type == 0x10 || type == 0x2C;
+}
+
+static size_t some_run(uint8_t *to, size_t most)
+{
+    size_t length = 0;
+    for (uint32_t n = one_in(20) ? 40 : below(5); n > 0; n--) {
+        size_t size = one_in(12) ? below(100) : below(7);
+        if (length + 2 + size > most)
+            break;
+        to[length] = one_in(5) ? (uint8_t)between(1, 255) : parameter_names[below(8)];
+        to[length + 1] = (uint8_t)size;
+        noise(to + length + 2, size);
+        length += 2 + size;
+    }
+    return length;
+}
+
+static size_t some_number(uint8_t *to)
+{
+    size_t signals = one_in(8) ? between(27, 31) : below(16), count = 2 + (signals + 1) / 2;
+    noise(to, count);
+    to[0] = (uint8_t)((to[0] & 127) | (signals % 2 ? 128 : 0));
+    if (signals % 2 && !one_in(16))
+        to[count - 1] &= 15;
+    return count;
+}
+
+/* Parts for a type, mostly right. */
+static void some_parts(struct given *w)
+{
+    size_t fixed, variable;
+    int optional;
+    w->type = one_in(4) ? types[below(24)] : acted[below(8)];
+    w->circuit = one_in(4) ? between(3830, 4095) : one_in(3) ? below(64) : below(4096);
+    shape_of(w->type, &fixed, &variable, &optional);
+    w->fixed_length = fixed;
+    noise(w->fixed, sizeof w->fixed);
+    if (!one_in(16))
+        w->fixed[0] &= 0xFD;
+    w->first_length = w->second_length = w->optional_length = 0;
+    if (variable > 0) {
+        if (w->type == 0x17) {
+            w->first_length = one_in(20) ? below(4) : 1;
+            w->first[0] = (uint8_t)(one_in(12) ? below(256) : between(1, 31));
+            w->first[1] = w->first[2] = 0;
+        } else if (w->type == 0x18 || w->type == 0x19) {
+            unsigned range = one_in(3) ? between(1, 255) : one_in(30) ? 0 : between(1, 40);
+            w->first[0] = (uint8_t)range;
+            w->first_length = 1 + range / 8 + 1;
+            noise(w->first + 1, w->first_length + 1);
+            if (one_in(20))
+                w->first_length = w->first_length - 1 + below(3);
+        } else if (w->type == 0x01) {
+            w->first_length = some_number(w->first);
+        } else {
+            w->first_length = one_in(10) ? between(0, 255) : one_in(20) ? between(250, 255) : below(12);
+            noise(w->first, w->first_length);
+        }
+    }
+    if (variable > 1) {
+        w->second_length = one_in(10) ? between(0, 255) : below(12);
+        noise(w->second, w->second_length);
+    }
+    if (optional && !one_in(3))
+        w->optional_length = some_run(w->optional, w->first_length > 240 ? 8 : 250);
+}
+
+/* A message of those parts: spare bits, any order of the parts, gaps, octets after the last. */
+static size_t some_message(const struct given *w, uint8_t *to)
+{
+    size_t fixed, variable;
+    int optional, written[3] = {0, 0, 0};
+    shape_of(w->type, &fixed, &variable, &optional);
+    size_t pointers = 3 + fixed, end = pointers + variable + (size_t)optional, length = end;
+    to[0] = (uint8_t)w->circuit;
+    to[1] = (uint8_t)(w->circuit >> 8 | (one_in(3) ? below(16) << 4 : 0));
+    to[2] = (uint8_t)w->type;
+    memcpy(to + 3, w->fixed, fixed);
+    if (optional)
+        to[end - 1] = 0;
+    int shuffled = one_in(2);
+    for (int i = 0; i < 3; i++) {
+        unsigned part = (unsigned)i;
+        if (shuffled) {
+            part = below(3);
+            while (written[part])
+                part = (part + 1) % 3;
+        }
+        written[part] = 1;
+        size_t gap = one_in(6) ? below(5) : 0;
+        if (part < 2 ? part >= variable : !optional || (w->optional_length == 0 && !one_in(3)))
+            continue;
+        noise(to + length, gap);
+        length += gap;
+        to[part < 2 ? pointers + part : end - 1] = (uint8_t)(length - (part < 2 ? pointers + part : end - 1));
+        const uint8_t *contents = part == 0 ? w->first : part == 1 ? w->second : w->optional;
+        size_t count = part == 0 ? w->first_length : part == 1 ? w->second_length : w->optional_length;
+        if (part < 2)
+            to[length++] = (uint8_t)count;
+        memcpy(to + length, contents, count);
+        length += count;
+        if (part == 2)
+            to[length++] = 0;
+    }
+    if (one_in(4)) {
+        size_t more = one_in(10) ? below(40) : below(6);
+        noise(to + length, more);
+        length += more;
+    }
+    return length;
+}
+
+/* Spoils a message a little. */
+static size_t spoil(uint8_t *m, size_t length)
+{
+    for (uint32_t n = between(1, 2); n > 0; n--) {
+        switch (below(8)) {
+        case 0:
+            m[below((uint32_t)length)] = (uint8_t)chance();
+            break;
+        case 1:
+            m[between(2, 9)] ^= (uint8_t)(1u << below(8));
+            break;
+        case 2:
+            m[between(3, 9)] += (uint8_t)(one_in(2) ? 1 : 255);
+            break;
+        case 3:
+            length -= below(length < 4 ? (uint32_t)length : 4);
+            break;
+        case 4:
+            m[below((uint32_t)length)] = 0;
+            break;
+        case 5: {
+            unsigned p = between(3, 8);
+            m[p + 1] = (uint8_t)(m[p] - 1 + below(3));
+            break;
+        }
+        case 6:
+            m[2] = (uint8_t)(one_in(3) ? chance() : types[below(24)]);
+            break;
+        default:
+            noise(m + length, 300 - (length > 300 ? 300 : length));
+            length = one_in(4) ? between(266, 270) : length + below(3);
+            break;
+        }
+        if (length == 0)
+            return 0;
+    }
+    return length;
+}
+
+static size_t near(size_t size)
+{
+    uint32_t n = below(8);
+    return n == 0 ? 0 : n == 1 ? size - (size > 0) : n == 2 ? size + 1 : n == 3 ? 268 : n == 4 ? size + below(20) : size;
+}
+
+/* Owners in zones; rows legal but for a few. */
+static void change_tables(int all)
+{
+    if (all) {
+        for (unsigned c = 0; c < 4097;) {
+            unsigned owner = owners_of_zones[below(8)];
+            for (unsigned n = one_in(3) ? between(1, 30) : between(100, 600); n > 0 && c < 4097; n--)
+                before_tables.owners[c++] = (uint8_t)owner;
+        }
+        for (unsigned c = 0; c < 4097; c++)
+            before_tables.states[c] = legal_states[below(6)];
+    }
+    unsigned from = below(4096), count = below(64);
+    for (unsigned c = from; c < from + count && c < 4096; c++)
+        before_tables.states[c] = legal_states[one_in(2) ? 0 : below(6)];
+    from = below(4096);
+    count = below(8);
+    unsigned owner = owners_of_zones[below(8)];
+    for (unsigned c = from; c < from + count && c < 4096; c++)
+        before_tables.owners[c] = (uint8_t)owner;
+    before_tables.states[below(4096)] = (uint8_t)chance();
+    ready_tables();
+}
+
+static void spoil_given(struct given *w)
+{
+    switch (below(9)) {
+    case 0:
+        w->circuit = one_in(2) ? 4096 + below(100) : chance();
+        break;
+    case 1:
+        w->type = one_in(2) ? chance() : w->type + 256 * below(3);
+        break;
+    case 2:
+        w->fixed_length = below(8);
+        break;
+    case 3:
+        w->second_length = below(3);
+        noise(w->second, w->second_length);
+        break;
+    case 4:
+        w->first_length = one_in(2) ? between(250, 258) : below(400);
+        noise(w->first, w->first_length);
+        break;
+    case 5:
+        w->second_length = between(1, 300);
+        noise(w->second, w->second_length);
+        break;
+    case 6:
+        w->optional_length = some_run(w->optional, 790);
+        break;
+    case 7:
+        if (w->optional_length)
+            w->optional[below((uint32_t)w->optional_length)] = (uint8_t)(one_in(2) ? 0 : chance());
+        break;
+    default:
+        if (w->optional_length)
+            w->optional_length -= 1;
+        break;
+    }
+}
+
+static void generated(void)
+{
+    static struct given w;
+    static uint8_t m[1200], scratch[1024], defaults[400], signals[64];
+    static const uint32_t strange[6] = {0, 256, 0xffffffff, 1, 7, 255};
+    for (unsigned i = 0; i < MESSAGES; i++) {
+        if (i % 64 == 0)
+            change_tables(i % 16384 == 0);
+        size_t length;
+        some_parts(&w);
+        if (one_in(10)) {
+            length = one_in(10) ? between(260, 275) : one_in(20) ? below(4) : between(3, 24);
+            noise(m, length + 3);
+            if (!one_in(4))
+                m[2] = types[below(24)];
+            if (!one_in(3))
+                for (size_t k = 3; k < 10; k++)
+                    m[k] &= 7;
+        } else {
+            length = some_message(&w, m);
+            if (one_in(3))
+                length = spoil(m, length);
+        }
+        try_read(m, length, one_in(8) ? below(13) : 10);
+        uint32_t size = plain_compact(m, length, scratch, 1024);
+        try_compact(m, length, near(size >> 16 ? 0 : size));
+
+        size_t run = one_in(3) ? 0 : some_run(defaults, 390);
+        if (run && one_in(8))
+            defaults[below((uint32_t)run)] = (uint8_t)(one_in(2) ? 0 : chance());
+        try_find(m, length, defaults, run, one_in(10) ? chance() : one_in(10) ? below(258) : parameter_names[below(8)],
+                 one_in(8) ? below(4) : 2);
+
+        uint32_t owner = length < 3 ? 1 : before_tables.owners[m[0] + 256u * (m[1] & 15u)];
+        uint32_t sender = one_in(12) ? strange[below(6)] : one_in(30) ? owner + 256 : owner ? owner : 7;
+        size_t needed = length > 2 && m[2] >= 0x17 && m[2] <= 0x19 ? 7 + w.first_length : 4;
+        if (one_in(200)) {
+            states_length = between(4095, 4097);
+            owners_length = between(4095, 4097);
+        }
+        try_act(sender, m, length, one_in(3) ? near(needed) : 268);
+        states_length = owners_length = 4096;
+
+        if (one_in(3))
+            spoil_given(&w);
+        size = plain_write(w.circuit, w.type, w.fixed, w.fixed_length, w.first, w.first_length, w.second,
+                           w.second_length, w.optional, w.optional_length, scratch, 1024);
+        try_write(&w, near(size >> 16 ? 0 : size));
+
+        if (i % 4 == 0) {
+            size_t count = one_in(4) ? below(20) : some_number(m);
+            if (count && one_in(4))
+                noise(m, count);
+            uint64_t number = plain_number_read(m, count, scratch, 1024);
+            try_number_read(m, count, near(number & 255));
+            count = one_in(8) ? between(28, 32) : below(31);
+            for (size_t k = 0; k < count; k++)
+                signals[k] = (uint8_t)below(16);
+            if (count && one_in(8))
+                signals[below((uint32_t)count)] = (uint8_t)chance();
+            try_number_write(one_in(10) ? chance() : below(130), one_in(20) ? chance() : below(8),
+                             one_in(20) ? chance() : below(2), signals, count, near(2 + (count + 1) / 2));
+        }
+    }
+}
+
+/* ------------------------------------------------------------------------------------------------ all of it */
+
+/* Each number that a function can give has come, and no other; each type was read, and each act was done. */
+static void reached(void)
+{
+    static const char can[FUNCTIONS][22] = {
+        [READ] = {1, 1, 1, 1, 1, 1, 1, 1, 1, 0, 0, 0, 0, 1},
+        [WRITE] = {1, 0, 1, 1, 0, 0, 0, 0, 0, 1, 1, 1, 1, 1},
+        [COMPACT] = {1, 1, 1, 1, 1, 1, 1, 1, 1, 0, 0, 0, 1, 1},
+        [FIND] = {1, 1, 1, 1, 1, 1, 1, 1, 1, 0, 0, 1, 0, 1, 0, 1},
+        [NUMBER_READ] = {1, 0, 0, 0, 0, 0, 0, 0, 0, 0, 0, 0, 0, 1, 1},
+        [NUMBER_WRITE] = {1, 0, 0, 0, 0, 0, 0, 0, 0, 0, 0, 0, 0, 1, 1},
+        [ACT] = {1, 1, 1, 1, 1, 1, 1, 1, 1, 0, 0, 0, 0, 1, 1, 0, 1, 1, 1, 1, 1, 1},
+    };
+    for (int f = 0; f < FUNCTIONS; f++) {
+        printf("%-12s", names[f]);
+        for (unsigned n = 0; n < 32; n++) {
+            checks++;
+            if (seen[f][n])
+                printf(" %u:%lu", n, seen[f][n]);
+            if ((seen[f][n] != 0) != (n < 22 && can[f][n]) && failed(names[f]))
+                printf("  number %u came %lu times\n", n, seen[f][n]);
+        }
+        printf("\n");
+    }
+    for (unsigned type = 0; type < 256; type++) {
+        unsigned known = 0, acting = 0;
+        for (int i = 0; i < 24; i++)
+            known |= types[i] == type;
+        for (int i = 0; i < 8; i++)
+            acting |= acted[i] == type;
+        checks++;
+        if ((known != (types_read[type] > 1000) || acting != (types_acted[type] > 1000)) && failed("types"))
+            printf("  %02x was read %lu times, acted on %lu times\n", type, types_read[type], types_acted[type]);
+    }
+}
+
+int main(void)
+{
+    if (!make_pages()) {
+        printf("boundary: no pages\n");
+        return 2;
+    }
+    noise(before, sizeof before);
+    noise((uint8_t *)&before_tables, sizeof before_tables);
+    ready_tables();
+    reader_cases();
+    writer_cases();
+    compact_cases();
+    find_cases();
+    number_cases();
+    act_cases();
+    generated();
+    reached();
+    printf("boundary: %lu checks, %lu failures\n", checks, failures);
+    return failures != 0;
+}
