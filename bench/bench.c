@@ -14,6 +14,7 @@ typedef uint32_t writing(uint32_t, uint32_t, const uint8_t *, size_t, const uint
                          const uint8_t *, size_t, uint8_t *, size_t);
 typedef uint32_t finding(const uint8_t *, size_t, const uint8_t *, size_t, uint32_t, size_t *, size_t);
 typedef uint64_t numbering(const uint8_t *, size_t, uint8_t *, size_t);
+typedef uint32_t number_writing(uint32_t, uint32_t, uint32_t, const uint8_t *, size_t, uint8_t *, size_t);
 typedef uint32_t acting(uint8_t *, size_t, const uint8_t *, size_t, uint32_t, const uint8_t *, size_t, uint8_t *, size_t);
 
 static uint8_t m[268], states[4096], owners[4096];
@@ -127,6 +128,15 @@ int main(int count, char **words)
         numbering *volatile f = PICK(numbering, number_read);
         for (unsigned i = 0; i < calls; i++)
             sink += f(m + parts[4], parts[5], out, sizeof out);
+    } else if (strcmp(function, "number_write") == 0) {
+        static const uint8_t digits[12] = {1, 2, 3, 4, 5, 6, 7, 8, 9, 0, 1, 2};
+        uint32_t size = llachurep_number_write(3, 1, 0, digits, sizeof digits, out, sizeof out);
+        if (size != 8 || memcmp(out, m + parts[4], size) != 0 ||
+            plain_number_write(3, 1, 0, digits, sizeof digits, out_of_plain, sizeof out) != size || memcmp(out, out_of_plain, size) != 0)
+            return 1;
+        number_writing *volatile f = PICK(number_writing, number_write);
+        for (unsigned i = 0; i < calls; i++)
+            sink += f(3, 1, 0, digits, sizeof digits, out, sizeof out);
     } else if (strcmp(function, "act") == 0) {
         uint32_t size = llachurep_act(states, 4096, owners, 4096, 7, m, length, out, sizeof out);
         if (size >> 16 || plain_act(states_of_plain, 4096, owners, 4096, 7, m, length, out_of_plain, sizeof out) != size ||

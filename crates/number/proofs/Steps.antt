@@ -25,18 +25,18 @@ pub read-none : (contents l : List ℕ) (k : ℕ) → countIn contents ≤ k →
 read-none contents l k h = sym (sets-none l k k (signalsIn contents) (omega (arith, length-signals contents)))
 
 -- the low half of octet `at` of the signals is read, and then the rest
-pub read-low-more : (contents l m : List ℕ) (at v : ℕ) → 2 * at < countIn contents → m ≡ sets (set l (2 * at) v) (2 * at + 1) (drop (2 * at + 1) (signalsIn contents)) → v ≡ getD contents (at + 2) 0 % 16 → m ≡ sets l (2 * at) (drop (2 * at) (signalsIn contents))
-read-low-more contents l m at v h rest e =
-    rest ∙ sets-more l (2 * at) (2 * at + 1) (2 * at) (2 * at + 1) v (signalsIn contents) (omega (arith, length-signals contents)) (e ∙ sym (signal-low contents at h)) (omega arith) (omega arith)
+pub read-low-more : (contents l : List ℕ) (at v : ℕ) → 2 * at < countIn contents → v ≡ getD contents (at + 2) 0 % 16 → sets (set l (2 * at) v) (2 * at + 1) (drop (2 * at + 1) (signalsIn contents)) ≡ sets l (2 * at) (drop (2 * at) (signalsIn contents))
+read-low-more contents l at v h e =
+    sets-more l (2 * at) (2 * at + 1) (2 * at) (2 * at + 1) v (signalsIn contents) (omega (arith, length-signals contents)) (e ∙ sym (signal-low contents at h)) (omega arith) (omega arith)
 
 -- the high half of octet `at` of the signals is read, and then the rest
-pub read-high-more : (contents l m : List ℕ) (at v : ℕ) → 2 * at + 1 < countIn contents → m ≡ sets (set l (2 * at + 1) v) (2 * (at + 1)) (drop (2 * (at + 1)) (signalsIn contents)) → v ≡ getD contents (at + 2) 0 / 16 → m ≡ sets l (2 * at + 1) (drop (2 * at + 1) (signalsIn contents))
-read-high-more contents l m at v h rest e =
-    rest ∙ sets-more l (2 * at + 1) (2 * (at + 1)) (2 * at + 1) (2 * (at + 1)) v (signalsIn contents) (omega (arith, length-signals contents)) (e ∙ sym (signal-high contents at h)) (omega arith) (omega arith)
+pub read-high-more : (contents l : List ℕ) (at v : ℕ) → 2 * at + 1 < countIn contents → v ≡ getD contents (at + 2) 0 / 16 → sets (set l (2 * at + 1) v) (2 * (at + 1)) (drop (2 * (at + 1)) (signalsIn contents)) ≡ sets l (2 * at + 1) (drop (2 * at + 1) (signalsIn contents))
+read-high-more contents l at v h e =
+    sets-more l (2 * at + 1) (2 * (at + 1)) (2 * at + 1) (2 * (at + 1)) v (signalsIn contents) (omega (arith, length-signals contents)) (e ∙ sym (signal-high contents at h)) (omega arith) (omega arith)
 
 -- the next signal is taken for a low half
-pub write-taken : (signals l m : List ℕ) (i k k′ : ℕ) → k < length signals → k′ ≡ suc k → m ≡ sets l i (packed (getD signals k 0 ∷ drop k′ signals)) → m ≡ sets l i (packed (drop k signals))
-write-taken signals l m i k k′ h e q = rw (drop-cons signals k 0 h, ← e) q
+pub write-taken : (signals l : List ℕ) (i k k′ : ℕ) → k < length signals → k′ ≡ suc k → sets l i (packed (getD signals k 0 ∷ drop k′ signals)) ≡ sets l i (packed (drop k signals))
+write-taken signals l i k k′ h e = rw (drop-cons signals k 0 h, ← e)
 
 -- none is left to write
 pub write-none : (signals l : List ℕ) (i k : ℕ) → length signals ≤ k → l ≡ sets l i (packed (drop k signals))
@@ -50,9 +50,9 @@ write-last signals l i k low h =
     let e : low + 16 * 0 ≡ low = omega arith in rw (drop-of-length-le signals h, e)
 
 -- two signals are written as one octet, and then the rest
-pub write-both : (signals l m : List ℕ) (i i′ k k′ low v : ℕ) → k < length signals → i′ ≡ suc i → k′ ≡ suc k → m ≡ sets (set l i v) i′ (packed (drop k′ signals)) → v ≡ octetOf low (getD signals k 0) → m ≡ sets l i (packed (low ∷ drop k signals))
+pub write-both : (signals l : List ℕ) (i i′ k k′ low v : ℕ) → k < length signals → i′ ≡ suc i → k′ ≡ suc k → v ≡ octetOf low (getD signals k 0) → sets (set l i v) i′ (packed (drop k′ signals)) ≡ sets l i (packed (low ∷ drop k signals))
 unfolding packed
-write-both signals l m i i′ k k′ low v h p q rest e = rest ∙ rw (drop-cons signals k 0 h, p, q, e)
+write-both signals l i i′ k k′ low v h p q e = rw (drop-cons signals k 0 h, p, q, e)
 
 -- a signal above 15 is found
 pub above-here : (signals : List ℕ) (i : ℕ) → i < length signals → 15 < getD signals i 0 → anyAbove15 (drop i signals) ≡ true

@@ -5,6 +5,7 @@ ghost use mathlib.Core.List.{_∷_};
 ghost use Prim.Native.Nat.{_+_, _*_, _/_, _≤_, _<_};
 ghost use lib.ListN.{length, drop};
 ghost use lib.Seq.{sets};
+ghost use denote.Ref.{at-last};
 ghost use Rattle.number.specs.Halves.{packed};
 ghost use Rattle.number.specs.Contents.{bit8, fillerIn, countIn, signalsIn};
 ghost use Rattle.octets.specs.Filled.{leaving};
@@ -50,10 +51,12 @@ fn filler(contents: &[u8]) -> u8
     contents[last] / 16
 }
 
+// The steps of reading and of writing hand on references to the two lent slices, one word each: what they hand on stays in registers, and the two steps of a pair are one loop in the end.
+
 // Reads the low half of octet `at` of the signals, and hands on to the high half, until no signal is left; leaves signal 2 at and those after it at their places.
-fn read_low(contents: &[u8], signals: &mut [u8], at: usize, left: usize)
-    requires { ⌜ (2 * at + left ≡ countIn (now contents)) × (countIn (now contents) ≤ length (now signals)) ⌝ }
-    ensures { λ _. ⌜ now (signals .exit) ≡ sets (now (signals .entry)) (2 * at) (drop (2 * at) (signalsIn (now (contents .entry)))) ⌝ }
+fn read_low(contents: &&[u8], signals: &mut &mut [u8], at: usize, left: usize)
+    requires { ⌜ (2 * at + left ≡ countIn (now (now contents))) × (countIn (now (now contents)) ≤ 30) × (countIn (now (now contents)) ≤ length (now (now signals))) ⌝ }
+    ensures { λ _. ⌜ now (signals .exit) ≡ at-last (now (signals .entry)) (sets (now (now (signals .entry))) (2 * at) (drop (2 * at) (signalsIn (now (now (contents .entry)))))) ⌝ }
 {
     if left == 0 {
         return;
@@ -63,15 +66,23 @@ fn read_low(contents: &[u8], signals: &mut [u8], at: usize, left: usize)
 }
 
 // Reads the high half of octet `at` of the signals, and hands on to the low half of the next octet, until no signal is left; leaves signal 2 at + 1 and those after it at their places.
-fn read_high(contents: &[u8], signals: &mut [u8], at: usize, left: usize)
-    requires { ⌜ (2 * at + 1 + left ≡ countIn (now contents)) × (countIn (now contents) ≤ length (now signals)) ⌝ }
-    ensures { λ _. ⌜ now (signals .exit) ≡ sets (now (signals .entry)) (2 * at + 1) (drop (2 * at + 1) (signalsIn (now (contents .entry)))) ⌝ }
+fn read_high(contents: &&[u8], signals: &mut &mut [u8], at: usize, left: usize)
+    requires { ⌜ (2 * at + 1 + left ≡ countIn (now (now contents))) × (countIn (now (now contents)) ≤ 30) × (countIn (now (now contents)) ≤ length (now (now signals))) ⌝ }
+    ensures { λ _. ⌜ now (signals .exit) ≡ at-last (now (signals .entry)) (sets (now (now (signals .entry))) (2 * at + 1) (drop (2 * at + 1) (signalsIn (now (now (contents .entry)))))) ⌝ }
 {
     if left == 0 {
         return;
     }
     signals[2 * at + 1] = contents[at + 2] / 16;
     read_low(contents, signals, at + 1, left - 1);
+}
+
+// Reads all signals of a number, the low half of the first octet first: lends its buffer to the steps, and leaves the signals at the front.
+fn read_signals(contents: &&[u8], mut signals: &mut [u8], count: usize)
+    requires { ⌜ (count ≡ countIn (now (now contents))) × (countIn (now (now contents)) ≤ 30) × (countIn (now (now contents)) ≤ length (now signals)) ⌝ }
+    ensures { λ _. ⌜ now (signals .exit) ≡ sets (now (signals .entry)) 0 (signalsIn (now (now (contents .entry)))) ⌝ }
+{
+    read_low(contents, &mut signals, 0, count);
 }
 
 // Reads a number: its values are the answer and its signals fill the front of `signals`, one to an octet, and the rest of it is kept.
@@ -97,7 +108,7 @@ pub fn read_number(contents: &[u8], signals: &mut [u8]) -> NumberRead
     if signals.len() < count {
         return NumberRead::Refused(13);
     }
-    read_low(contents, signals, 0, count);
+    read_signals(&contents, signals, count);
     NumberRead::Read(Number {
         nature: contents[0] % 128,
         plan: contents[1] / 16 % 8,
@@ -121,9 +132,9 @@ fn any_above_15(signals: &[u8]) -> bool
 }
 
 // Takes the signal for the low half of octet `at` of the signals, and hands it on to the high half, until no signal is left; leaves octet `at` and those after it written.
-fn write_low(signals: &[u8], out: &mut [u8], at: usize, left: usize)
-    requires { ⌜ (2 * at + left ≡ length (now signals)) × (anyAbove15 (now signals) ≡ false) × (2 + (length (now signals) + 1) / 2 ≤ length (now out)) ⌝ }
-    ensures { λ _. ⌜ now (out .exit) ≡ sets (now (out .entry)) (at + 2) (packed (drop (2 * at) (now (signals .entry)))) ⌝ }
+fn write_low(signals: &&[u8], out: &mut &mut [u8], at: usize, left: usize)
+    requires { ⌜ (2 * at + left ≡ length (now (now signals))) × (length (now (now signals)) ≤ 30) × (anyAbove15 (now (now signals)) ≡ false) × (2 + (length (now (now signals)) + 1) / 2 ≤ length (now (now out))) ⌝ }
+    ensures { λ _. ⌜ now (out .exit) ≡ at-last (now (out .entry)) (sets (now (now (out .entry))) (at + 2) (packed (drop (2 * at) (now (now (signals .entry)))))) ⌝ }
 {
     if left == 0 {
         return;
@@ -132,9 +143,9 @@ fn write_low(signals: &[u8], out: &mut [u8], at: usize, left: usize)
 }
 
 // Writes octet `at` of the signals, `low` in its low half and the next signal in its high half, or filler 0 where no signal is left, and hands on to the low half of the next octet; leaves octet `at` and those after it written.
-fn write_high(signals: &[u8], out: &mut [u8], at: usize, left: usize, low: u8)
-    requires { ⌜ (2 * at + 1 + left ≡ length (now signals)) × (anyAbove15 (now signals) ≡ false) × (2 + (length (now signals) + 1) / 2 ≤ length (now out)) × (low ≤ 15) ⌝ }
-    ensures { λ _. ⌜ now (out .exit) ≡ sets (now (out .entry)) (at + 2) (packed (low ∷ drop (2 * at + 1) (now (signals .entry)))) ⌝ }
+fn write_high(signals: &&[u8], out: &mut &mut [u8], at: usize, left: usize, low: u8)
+    requires { ⌜ (2 * at + 1 + left ≡ length (now (now signals))) × (length (now (now signals)) ≤ 30) × (anyAbove15 (now (now signals)) ≡ false) × (2 + (length (now (now signals)) + 1) / 2 ≤ length (now (now out))) × (low ≤ 15) ⌝ }
+    ensures { λ _. ⌜ now (out .exit) ≡ at-last (now (out .entry)) (sets (now (now (out .entry))) (at + 2) (packed (low ∷ drop (2 * at + 1) (now (now (signals .entry)))))) ⌝ }
 {
     if left == 0 {
         out[at + 2] = low;
@@ -142,6 +153,14 @@ fn write_high(signals: &[u8], out: &mut [u8], at: usize, left: usize, low: u8)
     }
     out[at + 2] = low + 16 * signals[2 * at + 1];
     write_low(signals, out, at + 1, left - 1);
+}
+
+// Writes all signals, the low half of the first octet first: lends its buffer to the steps, and leaves their octets after the first two of `out`.
+fn write_signals(signals: &&[u8], mut out: &mut [u8], count: usize)
+    requires { ⌜ (count ≡ length (now (now signals))) × (length (now (now signals)) ≤ 30) × (anyAbove15 (now (now signals)) ≡ false) × (2 + (length (now (now signals)) + 1) / 2 ≤ length (now out)) ⌝ }
+    ensures { λ _. ⌜ now (out .exit) ≡ sets (now (out .entry)) 2 (packed (now (now (signals .entry)))) ⌝ }
+{
+    write_low(signals, &mut out, 0, count);
 }
 
 // Writes a number: its octets fill the front of `out`, their count is the answer, and the rest of `out` is kept.
@@ -177,6 +196,6 @@ pub fn write_number(
     }
     out[0] = 128 * ((count % 2) as u8) + nature as u8;
     out[1] = 128 * (internal as u8) + 16 * (plan as u8);
-    write_low(signals, out, 0, count);
+    write_signals(&signals, out, count);
     NumberWritten::Written(length)
 }

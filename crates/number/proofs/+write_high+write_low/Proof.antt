@@ -1,8 +1,8 @@
-use mathlib.Core.Path.{refl, _∙_}
+use mathlib.Core.Path.{refl, _∙_, ap}
 use Prim.Native.Nat.{ℕ, _+_, _*_, _<_}
 use native.Mathlib.Omega.{arith}
 use lib.ListN.{length-set}
-use denote.Ref.{now}
+use denote.Ref.{now, at-last}
 use Rattle.number.specs.Laws.{none-above}
 use Rattle.number.proofs.Steps.{write-taken, write-none, write-last, write-both}
 use borrow.Fn.Kinds.{In}
@@ -16,27 +16,28 @@ use Rattle.number.proofs.+write_high+write_low.Lts-write_low as write-l
 use Rattle.number.proofs.+write_high+write_low.{statement}
 use Rattle.number.proofs.+write_high+write_low.Tie.{close}
 
-abbrev μ-write-high : Measures 2 write-high-kinds.ps ℕ
+abbrev μ-write-high : Measures 4 write-high-kinds.ps ℕ
 μ-write-high κs a = a .1 .1 .1 .0
 
-abbrev μ-write-low : Measures 2 write-low-kinds.ps ℕ
+abbrev μ-write-low : Measures 4 write-low-kinds.ps ℕ
 μ-write-low κs a = a .1 .1 .1 .0
 
-abbrev write-high-at : ℕ → In 2 write-high-kinds.ps
+abbrev write-high-at : ℕ → In 4 write-high-kinds.ps
 write-high-at t =
-    and 2 write-high-kinds.ps (is 2 write-high-kinds.ps μ-write-high t) write-high.Pre
+    and 4 write-high-kinds.ps (is 4 write-high-kinds.ps μ-write-high t) write-high.Pre
 
-abbrev write-high-below : ℕ → In 2 write-high-kinds.ps
+abbrev write-high-below : ℕ → In 4 write-high-kinds.ps
 write-high-below t =
-    and 2 write-high-kinds.ps (falls 2 write-high-kinds.ps _<_ μ-write-high t) write-high.Pre
+    and 4 write-high-kinds.ps (falls 4 write-high-kinds.ps _<_ μ-write-high t) write-high.Pre
 
-abbrev write-low-at : ℕ → In 2 write-low-kinds.ps
-write-low-at t = and 2 write-low-kinds.ps (is 2 write-low-kinds.ps μ-write-low t) write-low.Pre
+abbrev write-low-at : ℕ → In 4 write-low-kinds.ps
+write-low-at t = and 4 write-low-kinds.ps (is 4 write-low-kinds.ps μ-write-low t) write-low.Pre
 
-abbrev write-low-below : ℕ → In 2 write-low-kinds.ps
+abbrev write-low-below : ℕ → In 4 write-low-kinds.ps
 write-low-below t =
-    and 2 write-low-kinds.ps (falls 2 write-low-kinds.ps _<_ μ-write-low t) write-low.Pre
+    and 4 write-low-kinds.ps (falls 4 write-low-kinds.ps _<_ μ-write-low t) write-low.Pre
 
+-- src/lib.rt:149:13
 write-high-add-out :
     (t : ℕ) →
     write-high-lts.Need-add-out
@@ -45,26 +46,24 @@ write-high-add-out :
     write-high.Post
 write-high-add-out t c = omega arith
 
-write-high-slice-write-out : (t : ℕ) → write-high-lts.Need-slice-write-out (
+-- src/lib.rt:149:9
+write-high-index-1-out : (t : ℕ) → write-high-lts.Need-index-1-out (
   write-low-below t,
   write-low.Post,
 ) (write-high-at t) write-high.Post
-write-high-slice-write-out t c = omega arith
+write-high-index-1-out t c = omega arith
 
-write-high-same-length : (t : ℕ) → write-high-lts.Need-same-length (
-  write-low-below t,
-  write-low.Post,
-) (write-high-at t) write-high.Post
-write-high-same-length t c = simp length-set
-
+-- src/lib.rt:150:9
 write-high-returns :
     (t : ℕ) →
     write-high-lts.Need-returns
     (write-low-below t, write-low.Post)
     (write-high-at t)
     write-high.Post
-write-high-returns t c = let a = c .before .before .before .args in write-last (now (a .signals)) (now (a .out)) (a .at + 2) (2 * a .at + 1) (a .low) (omega arith)
+write-high-returns t c =
+    let a = c .before .args in ap (at-last (now (a .out))) (write-last (now (now (a .signals))) (now (now (a .out))) (a .at + 2) (2 * a .at + 1) (a .low) (omega arith))
 
+-- src/lib.rt:152:38
 write-high-mul-out :
     (t : ℕ) →
     write-high-lts.Need-mul-out
@@ -73,6 +72,7 @@ write-high-mul-out :
     write-high.Post
 write-high-mul-out t c = omega arith
 
+-- src/lib.rt:152:38
 write-high-add-out-2 :
     (t : ℕ) →
     write-high-lts.Need-add-out-2
@@ -81,12 +81,14 @@ write-high-add-out-2 :
     write-high.Post
 write-high-add-out-2 t c = omega arith
 
-write-high-shared-slice-read-out : (t : ℕ) → write-high-lts.Need-shared-slice-read-out (
+-- src/lib.rt:152:30
+write-high-index-1-out-2 : (t : ℕ) → write-high-lts.Need-index-1-out-2 (
   write-low-below t,
   write-low.Post,
 ) (write-high-at t) write-high.Post
-write-high-shared-slice-read-out t c = omega arith
+write-high-index-1-out-2 t c = omega arith
 
+-- src/lib.rt:152:25
 write-high-mul-out-2 :
     (t : ℕ) →
     write-high-lts.Need-mul-out-2
@@ -94,9 +96,9 @@ write-high-mul-out-2 :
     (write-high-at t)
     write-high.Post
 write-high-mul-out-2 t c =
-    let s = c .before .before .before .before in
-    omega (arith, none-above (now (s .args .signals)) (s .pre .1 .1) (2 * s .args .at + 1))
+    let s = c .before .before in omega (arith, none-above (now (now (s .args .signals))) (s .pre .1 .2) (2 * s .args .at + 1))
 
+-- src/lib.rt:152:19
 write-high-add-out-3 :
     (t : ℕ) →
     write-high-lts.Need-add-out-3
@@ -104,9 +106,9 @@ write-high-add-out-3 :
     (write-high-at t)
     write-high.Post
 write-high-add-out-3 t c =
-    let s = c .before .before .before .before in
-    omega (arith, none-above (now (s .args .signals)) (s .pre .1 .1) (2 * s .args .at + 1))
+    let s = c .before .before in omega (arith, none-above (now (now (s .args .signals))) (s .pre .1 .2) (2 * s .args .at + 1))
 
+-- src/lib.rt:152:9
 write-high-add-out-4 :
     (t : ℕ) →
     write-high-lts.Need-add-out-4
@@ -115,37 +117,36 @@ write-high-add-out-4 :
     write-high.Post
 write-high-add-out-4 t c = omega arith
 
-write-high-slice-write-out-2 : (t : ℕ) → write-high-lts.Need-slice-write-out-2 (
+-- src/lib.rt:152:5
+write-high-index-1-out-3 : (t : ℕ) → write-high-lts.Need-index-1-out-3 (
   write-low-below t,
   write-low.Post,
 ) (write-high-at t) write-high.Post
-write-high-slice-write-out-2 t c = omega arith
+write-high-index-1-out-3 t c = omega arith
 
+-- src/lib.rt:153:29
 write-high-add-write-low : (t : ℕ) → write-high-lts.Need-add-write-low (
   write-low-below t,
   write-low.Post,
 ) (write-high-at t) write-high.Post
 write-high-add-write-low t c = omega arith
 
+-- src/lib.rt:153:37
 write-high-sub-write-low : (t : ℕ) → write-high-lts.Need-sub-write-low (
   write-low-below t,
   write-low.Post,
 ) (write-high-at t) write-high.Post
 write-high-sub-write-low t c = omega arith
 
+-- src/lib.rt:153:5
 write-high-write-low-requires : (t : ℕ) → write-high-lts.Need-write-low-requires (
   write-low-below t,
   write-low.Post,
 ) (write-high-at t) write-high.Post
 write-high-write-low-requires t c κs =
-    (omega arith, (omega arith, c .before .before .before .before .before .pre .1 .1, simp length-set (omega arith)))
+    let s = c .before .before .before in (omega arith, (omega arith, omega arith, s .pre .1 .2, simp length-set (omega arith)))
 
-write-high-same-length-2 : (t : ℕ) → write-high-lts.Need-same-length-2 (
-  write-low-below t,
-  write-low.Post,
-) (write-high-at t) write-high.Post
-write-high-same-length-2 t c = c .before .before .write-low .kept .1 .0 ∙ simp length-set
-
+-- src/lib.rt:144:1
 write-high-returns-2 :
     (t : ℕ) →
     write-high-lts.Need-returns-2
@@ -153,49 +154,50 @@ write-high-returns-2 :
     (write-high-at t)
     write-high.Post
 write-high-returns-2 t c =
-    let a = c .before .before .before .before .before .before .before .before .args in
-    write-both (now (a .signals)) (now (a .out)) _ (a .at + 2) (a .at + 1 + 2) (2 * a .at + 1) (2 * (a .at + 1)) (a .low) _ (omega arith) (omega arith) (omega arith) (c .before .before .write-low .ensures) refl
+    let a = c .before .before .before .before .args in
+    c .write-low .ensures ∙ ap (at-last (now (a .out))) (write-both (now (now (a .signals))) (now (now (a .out))) (a .at + 2) (a .at + 1 + 2) (2 * a .at + 1) (2 * (a .at + 1)) (a .low) _ (omega arith) (omega arith) (omega arith) refl)
 
+-- src/lib.rt:138:9
 write-low-returns :
     (t : ℕ) →
     write-low-lts.Need-returns
     (write-high-below t, write-high.Post)
     (write-low-at t)
     write-low.Post
-write-low-returns t c = let a = c .before .before .before .args in write-none (now (a .signals)) (now (a .out)) (a .at + 2) (2 * a .at) (omega arith)
+write-low-returns t c =
+    let a = c .before .args in ap (at-last (now (a .out))) (write-none (now (now (a .signals))) (now (now (a .out))) (a .at + 2) (2 * a .at) (omega arith))
 
+-- src/lib.rt:140:34
 write-low-sub-write-high : (t : ℕ) → write-low-lts.Need-sub-write-high (
   write-high-below t,
   write-high.Post,
 ) (write-low-at t) write-low.Post
 write-low-sub-write-high t c = omega arith
 
+-- src/lib.rt:140:52
 write-low-mul-write-high : (t : ℕ) → write-low-lts.Need-mul-write-high (
   write-high-below t,
   write-high.Post,
 ) (write-low-at t) write-low.Post
 write-low-mul-write-high t c = omega arith
 
-write-low-shared-slice-read-write-high : (t : ℕ) → write-low-lts.Need-shared-slice-read-write-high (
+-- src/lib.rt:140:44
+write-low-index-1-write-high : (t : ℕ) → write-low-lts.Need-index-1-write-high (
   write-high-below t,
   write-high.Post,
 ) (write-low-at t) write-low.Post
-write-low-shared-slice-read-write-high t c = omega arith
+write-low-index-1-write-high t c = omega arith
 
+-- src/lib.rt:140:5
 write-low-write-high-requires : (t : ℕ) → write-low-lts.Need-write-high-requires (
   write-high-below t,
   write-high.Post,
 ) (write-low-at t) write-low.Post
 write-low-write-high-requires t c κs =
-    let s = c .before .before .before .before .before in
-    (omega arith, (omega arith, s .pre .1 .1, omega arith, none-above (now (s .args .signals)) (s .pre .1 .1) (2 * s .args .at)))
+    let s = c .before .before .before in
+    (omega arith, (omega arith, omega arith, s .pre .1 .2, omega arith, none-above (now (now (s .args .signals))) (s .pre .1 .2) (2 * s .args .at)))
 
-write-low-same-length : (t : ℕ) → write-low-lts.Need-same-length (
-  write-high-below t,
-  write-high.Post,
-) (write-low-at t) write-low.Post
-write-low-same-length t c = c .before .before .write-high .kept .1 .0
-
+-- src/lib.rt:133:1
 write-low-returns-2 :
     (t : ℕ) →
     write-low-lts.Need-returns-2
@@ -203,8 +205,8 @@ write-low-returns-2 :
     (write-low-at t)
     write-low.Post
 write-low-returns-2 t c =
-    let a = c .before .before .before .before .before .before .before .before .args in
-    write-taken (now (a .signals)) (now (a .out)) _ (a .at + 2) (2 * a .at) (2 * a .at + 1) (omega arith) (omega arith) (c .before .before .write-high .ensures)
+    let a = c .before .before .before .before .args in
+    c .write-high .ensures ∙ ap (at-last (now (a .out))) (write-taken (now (now (a .signals))) (now (now (a .out))) (a .at + 2) (2 * a .at) (2 * a .at + 1) (omega arith) (omega arith))
 
 pub +write-high+write-low-spec : {M : Type 1} → statement M
 +write-high+write-low-spec = close μ-write-high μ-write-low (λ t. write-high-lts.spec (
@@ -214,20 +216,18 @@ pub +write-high+write-low-spec : {M : Type 1} → statement M
     (write-high-at t)
     write-high.Post
     (write-high-add-out t)
-    (write-high-slice-write-out t)
-    (write-high-same-length t)
+    (write-high-index-1-out t)
     (write-high-returns t)
     (write-high-mul-out t)
     (write-high-add-out-2 t)
-    (write-high-shared-slice-read-out t)
+    (write-high-index-1-out-2 t)
     (write-high-mul-out-2 t)
     (write-high-add-out-3 t)
     (write-high-add-out-4 t)
-    (write-high-slice-write-out-2 t)
+    (write-high-index-1-out-3 t)
     (write-high-add-write-low t)
     (write-high-sub-write-low t)
     (write-high-write-low-requires t)
-    (write-high-same-length-2 t)
     (write-high-returns-2 t))
     λ t. write-low-lts.spec
     (write-high-below t, write-high.Post)
@@ -236,7 +236,6 @@ pub +write-high+write-low-spec : {M : Type 1} → statement M
     (write-low-returns t)
     (write-low-sub-write-high t)
     (write-low-mul-write-high t)
-    (write-low-shared-slice-read-write-high t)
+    (write-low-index-1-write-high t)
     (write-low-write-high-requires t)
-    (write-low-same-length t)
     (write-low-returns-2 t)

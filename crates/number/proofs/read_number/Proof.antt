@@ -7,72 +7,95 @@ use Rattle.number.specs.Reading.{read-short, read-empty, read-filler, re
 use borrow.Author.Needs.{needs}
 use Rattle.number.proofs.read_number.Statement.{statement}
 use Rattle.number.proofs.read_number.Tie as tie
+use Rattle.number.proofs.read_number.Reads as reads
+use Rattle.number.proofs.read_number.Lts as lts
+use Rattle.number.proofs.bit_8.Reads as bit-8-reads
+use Rattle.number.proofs.filler.Reads as filler-reads
+use Rattle.number.proofs.read_signals.Reads as read-signals-reads
 
+-- src/lib.rt:92:9
 returns : tie.Need-returns
-returns c = let a = c .before .before .before .args in read-short (now (a .contents)) (now (a .signals)) (omega arith)
+returns c = let a = c .before .before .before .args in read-short (now (a .t1)) (now (a .signals)) (omega arith)
 
+-- src/lib.rt:94:21
 shared-slice-read-bit-8 : tie.Need-shared-slice-read-bit-8
 shared-slice-read-bit-8 c = search needs
 
+-- src/lib.rt:94:15
 bit-8-requires : tie.Need-bit-8-requires
 bit-8-requires c κs = search needs
 
+-- src/lib.rt:94:15
 cast-odd : tie.Need-cast-odd
 cast-odd c = search needs
 
+-- src/lib.rt:95:23
 sub-halves : tie.Need-sub-halves
 sub-halves c = search needs
 
+-- src/lib.rt:95:18
 mul-halves : tie.Need-mul-halves
 mul-halves c = search needs
 
+-- src/lib.rt:97:9
 returns-2 : tie.Need-returns-2
-returns-2 c = let a = c .before .before .before .before .before .before .args in read-empty (now (a .contents)) (now (a .signals)) (omega arith) (omega arith)
+returns-2 c = let a = c .before .before .before .before .before .before .args in read-empty (now (a .t1)) (now (a .signals)) (omega arith) (omega arith)
 
+-- src/lib.rt:99:8
 filler-requires : tie.Need-filler-requires
 filler-requires c κs = search needs
 
+-- src/lib.rt:100:9
 returns-3 : tie.Need-returns-3
-returns-3 c = let a = c .before .before .before .before .before .before .before .before .args in read-filler (now (a .contents)) (now (a .signals)) (omega arith) (omega arith) (omega arith)
+returns-3 c = let a = c .before .before .before .before .before .before .before .before .args in read-filler (now (a .t1)) (now (a .signals)) (omega arith) (omega arith) (omega arith)
 
+-- src/lib.rt:104:9
 returns-4 : tie.Need-returns-4
-returns-4 c = let a = c .before .before .before .before .before .before .before .before .before .args in read-long (now (a .contents)) (now (a .signals)) (omega arith) (omega arith) (omega arith) (omega arith)
+returns-4 c = let a = c .before .before .before .before .before .before .before .before .before .args in read-long (now (a .t1)) (now (a .signals)) (omega arith) (omega arith) (omega arith) (omega arith)
 
+-- src/lib.rt:107:9
 returns-5 : tie.Need-returns-5
 returns-5 c =
     let a = c .before .before .before .before .before .before .before .before .before .before .args in
-    read-no-room (now (a .contents)) (now (a .signals)) (valuesIn (now (a .contents))) (signalsIn (now (a .contents)))
-    (number-there (now (a .contents)) (omega arith) (omega arith) (omega arith) (omega arith))
-    (omega (arith, length-signals (now (a .contents))))
+    read-no-room (now (a .t1)) (now (a .signals)) (valuesIn (now (a .t1))) (signalsIn (now (a .t1)))
+    (number-there (now (a .t1)) (omega arith) (omega arith) (omega arith) (omega arith))
+    (omega (arith, length-signals (now (a .t1))))
 
-read-low-requires : tie.Need-read-low-requires
-read-low-requires c κs = omega arith
+-- src/lib.rt:109:5
+read-signals-requires : tie.Need-read-signals-requires
+read-signals-requires c κs = search needs
 
-shared-slice-read-t10 : tie.Need-shared-slice-read-t10
-shared-slice-read-t10 c = search needs
+-- src/lib.rt:111:17
+shared-slice-read-t9 : tie.Need-shared-slice-read-t9
+shared-slice-read-t9 c = search needs
 
-shared-slice-read-t17 : tie.Need-shared-slice-read-t17
-shared-slice-read-t17 c = search needs
+-- src/lib.rt:112:15
+shared-slice-read-t20 : tie.Need-shared-slice-read-t20
+shared-slice-read-t20 c = search needs
 
+-- src/lib.rt:113:25
 shared-slice-read-bit-8-2 : tie.Need-shared-slice-read-bit-8-2
 shared-slice-read-bit-8-2 c = search needs
 
+-- src/lib.rt:113:19
 bit-8-requires-2 : tie.Need-bit-8-requires-2
 bit-8-requires-2 c κs = search needs
 
+-- src/lib.rt:88:1
 same-length : tie.Need-same-length
 same-length c = search needs
 
+-- src/lib.rt:88:1
 returns-6 : tie.Need-returns-6
 returns-6 c =
-    let a = c .before .before .before .before .before .before .before .before .before .before .before .before .before .before .before .before .before .before .args in
-    read-done (now (a .contents)) (now (a .signals)) (valuesIn (now (a .contents))) (signalsIn (now (a .contents)))
-    (number-there (now (a .contents)) (omega arith) (omega arith) (omega arith) (omega arith))
+    let a = c .before .before .before .before .before .before .before .before .before .before .before .before .before .before .before .before .before .before .before .args in
+    read-done (now (a .t1)) (now (a .signals)) (valuesIn (now (a .t1))) (signalsIn (now (a .t1)))
+    (number-there (now (a .t1)) (omega arith) (omega arith) (omega arith) (omega arith))
     _
     _
-    (omega (arith, length-signals (now (a .contents))))
-    (values-same (now (a .contents)) _ _ (c .bit-82 .ensures) (let e = c .before .before .before .before .before .before .before .before .before .before .before .before .before .bit-8 .ensures in omega arith))
-    (c .before .before .before .before .before .before .read-low .ensures)
+    (omega (arith, length-signals (now (a .t1))))
+    (values-same (now (a .t1)) _ _ (c .bit-82 .ensures) (let e = c .before .before .before .before .before .before .before .before .before .before .before .before .before .before .bit-8 .ensures in omega arith))
+    (c .before .before .before .before .before .before .read-signals .ensures)
 
 pub read-number-spec : {M : Type 1} → statement M
 read-number-spec =
@@ -89,9 +112,9 @@ read-number-spec =
     returns-3
     returns-4
     returns-5
-    read-low-requires
-    shared-slice-read-t10
-    shared-slice-read-t17
+    read-signals-requires
+    shared-slice-read-t9
+    shared-slice-read-t20
     shared-slice-read-bit-8-2
     bit-8-requires-2
     same-length

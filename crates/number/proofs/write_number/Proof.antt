@@ -10,16 +10,16 @@ use Rattle.number.proofs.write_number.Statement.{statement}
 use Rattle.number.proofs.write_number.Tie as tie
 
 returns : tie.Need-returns
-returns c = let a = c .before .before .before .args in write-nature (a .nature) (a .plan) (a .internal) (now (a .signals)) (now (a .out)) (omega arith)
+returns c = let a = c .before .before .before .args in write-nature (a .nature) (a .plan) (a .internal) (now (a .t4)) (now (a .out)) (omega arith)
 
 returns-2 : tie.Need-returns-2
-returns-2 c = let a = c .before .before .before .before .args in write-plan (a .nature) (a .plan) (a .internal) (now (a .signals)) (now (a .out)) (omega arith) (omega arith)
+returns-2 c = let a = c .before .before .before .before .args in write-plan (a .nature) (a .plan) (a .internal) (now (a .t4)) (now (a .out)) (omega arith) (omega arith)
 
 returns-3 : tie.Need-returns-3
-returns-3 c = let a = c .before .before .before .before .before .args in write-internal (a .nature) (a .plan) (a .internal) (now (a .signals)) (now (a .out)) (omega arith) (omega arith) (omega arith)
+returns-3 c = let a = c .before .before .before .before .before .args in write-internal (a .nature) (a .plan) (a .internal) (now (a .t4)) (now (a .out)) (omega arith) (omega arith) (omega arith)
 
 returns-4 : tie.Need-returns-4
-returns-4 c = let a = c .before .before .before .before .before .before .args in write-long (a .nature) (a .plan) (a .internal) (now (a .signals)) (now (a .out)) (omega arith) (omega arith) (omega arith) (omega arith)
+returns-4 c = let a = c .before .before .before .before .before .before .args in write-long (a .nature) (a .plan) (a .internal) (now (a .t4)) (now (a .out)) (omega arith) (omega arith) (omega arith) (omega arith)
 
 any-above-15-requires : tie.Need-any-above-15-requires
 any-above-15-requires c κs = search needs
@@ -27,7 +27,7 @@ any-above-15-requires c κs = search needs
 returns-5 : tie.Need-returns-5
 returns-5 c =
     let a = c .before .before .before .before .before .before .before .before .args in
-    write-above (a .nature) (a .plan) (a .internal) (now (a .signals)) (now (a .out)) (omega arith) (omega arith) (omega arith) (omega arith)
+    write-above (a .nature) (a .plan) (a .internal) (now (a .t4)) (now (a .out)) (omega arith) (omega arith) (omega arith) (omega arith)
     (sym (c .before .any-above-15 .ensures) ∙ c .if5 .taken)
 
 add-length : tie.Need-add-length
@@ -39,10 +39,10 @@ add-length-2 c = search needs
 returns-6 : tie.Need-returns-6
 returns-6 c =
     let a = c .before .before .before .before .before .before .before .before .before .args in
-    let x = contentsOf (a .nature) (a .plan) (a .internal) (now (a .signals)) in
-    write-no-room (a .nature) (a .plan) (a .internal) (now (a .signals)) (now (a .out)) (length x) x
-    (octets-there (a .nature) (a .plan) (a .internal) (now (a .signals)) (omega arith) (omega arith) (omega arith) (omega arith) (sym (c .before .before .any-above-15 .ensures) ∙ c .before .if5 .left))
-    (omega (arith, length-packed (now (a .signals))))
+    let x = contentsOf (a .nature) (a .plan) (a .internal) (now (a .t4)) in
+    write-no-room (a .nature) (a .plan) (a .internal) (now (a .t4)) (now (a .out)) (length x) x
+    (octets-there (a .nature) (a .plan) (a .internal) (now (a .t4)) (omega arith) (omega arith) (omega arith) (omega arith) (sym (c .before .before .any-above-15 .ensures) ∙ c .before .if5 .left))
+    (omega (arith, length-packed (now (a .t4))))
 
 cast-out : tie.Need-cast-out
 cast-out c = search needs
@@ -77,24 +77,24 @@ add-out-2 c = search needs
 slice-write-out-2 : tie.Need-slice-write-out-2
 slice-write-out-2 c = simp length-set (omega arith)
 
-write-low-requires : tie.Need-write-low-requires
-write-low-requires c κs =
-    (omega arith, sym (c .before .before .before .any-above-15 .ensures) ∙ c .before .before .if5 .left, simp length-set (omega arith))
+write-signals-requires : tie.Need-write-signals-requires
+write-signals-requires c κs =
+    (omega arith, omega arith, sym (c .before .before .before .before .any-above-15 .ensures) ∙ c .before .before .before .if5 .left, simp length-set (omega arith))
 
 same-length : tie.Need-same-length
-same-length c = c .before .before .write-low .kept .1 .0 ∙ simp length-set
+same-length c = c .before .before .write-signals .kept .1 .0 ∙ simp length-set
 
 returns-7 : tie.Need-returns-7
 returns-7 c =
-    let a = c .before .before .before .before .before .before .before .before .before .before .before .before .before .args in
-    let x = contentsOf (a .nature) (a .plan) (a .internal) (now (a .signals)) in
-    write-done (a .nature) (a .plan) (a .internal) (now (a .signals)) (now (a .out)) (length x) x
-    (octets-there (a .nature) (a .plan) (a .internal) (now (a .signals)) (omega arith) (omega arith) (omega arith) (omega arith) (sym (c .before .before .before .before .before .before .any-above-15 .ensures) ∙ c .before .before .before .before .before .if5 .left))
+    let a = c .before .before .before .before .before .before .before .before .before .before .before .before .before .before .args in
+    let x = contentsOf (a .nature) (a .plan) (a .internal) (now (a .t4)) in
+    write-done (a .nature) (a .plan) (a .internal) (now (a .t4)) (now (a .out)) (length x) x
+    (octets-there (a .nature) (a .plan) (a .internal) (now (a .t4)) (omega arith) (omega arith) (omega arith) (omega arith) (sym (c .before .before .before .before .before .before .before .any-above-15 .ensures) ∙ c .before .before .before .before .before .before .if5 .left))
     _
     _
-    (omega (arith, length-packed (now (a .signals))))
-    (omega (arith, length-packed (now (a .signals))))
-    (c .before .before .write-low .ensures)
+    (omega (arith, length-packed (now (a .t4))))
+    (omega (arith, length-packed (now (a .t4))))
+    (c .before .before .write-signals .ensures)
 
 pub write-number-spec : {M : Type 1} → statement M
 write-number-spec =
@@ -120,6 +120,6 @@ write-number-spec =
     mul-out-3
     add-out-2
     slice-write-out-2
-    write-low-requires
+    write-signals-requires
     same-length
     returns-7)
