@@ -92,10 +92,10 @@ pub fn step_at(octets: &[u8], i: usize) -> Step
     if name == 0 {
         return Step::Close;
     }
-    if octets.len() - i < 2 {
+    let at = i + 2;
+    if octets.len() < at {
         return Step::Pass;
     }
-    let at = i + 2;
     let len = octets[i + 1] as usize;
     if octets.len() < at + len {
         return Step::Pass;

@@ -19,17 +19,14 @@ returns-2 : tie.Need-returns-2
 unfolding stepAt
 returns-2 c = search tests
 
-sub-if3 : tie.Need-sub-if3
-sub-if3 c = search needs
+add-at : tie.Need-add-at
+add-at c = search needs
 
 returns-3 : tie.Need-returns-3
 unfolding stepAt
 returns-3 c = let a = c .before .before .before .before .args in
     let h : length (now (a .octets)) < next (now (a .octets)) (a .i) = omega arith in
     search tests
-
-add-at : tie.Need-add-at
-add-at c = search needs
 
 add-len : tie.Need-add-len
 add-len c = search needs
@@ -58,9 +55,8 @@ step-at-spec =
     returns
     shared-slice-read-name
     returns-2
-    sub-if3
-    returns-3
     add-at
+    returns-3
     add-len
     shared-slice-read-len
     cast-len
