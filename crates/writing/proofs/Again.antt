@@ -262,7 +262,7 @@ compact-is m w s p qs few x =
     let nf : length (partOf m (p .fixed)) ≡ s .fixed = said-fits m w s p qs (x .laid) [] .fixed in
     let nh : length (octets m 0 w) ≡ w = length-octets m 0 w (omega (arith, l .whole)) in
     let fx : Within m (w + 1) (partOf m (p .fixed)) = rw fq (within-stretch m (w + 1) (startOf w s - (w + 1)) (omega (arith, l .whole))) in
-    assembled (record {
+    assembled _ _ _ _ _ _ (record {
       heads = within-stretch m 0 w (omega (arith, l .whole));
       kinds = within-join (octet m w ∷ []) (partOf m (p .fixed)) (within-at _ (omega arith) (within-one (omega (arith, l .whole)) refl)) (within-at _ (omega arith) fx);
       pointing = within-at _ (omega arith) (st .pointing);

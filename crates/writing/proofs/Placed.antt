@@ -168,57 +168,64 @@ pub record Pieces (m : List ℕ) (o : Bool) (head : List ℕ) (kind : ℕ) (fixe
   pub optional : Within m (length head + 1 + length fixed + length vs + bit o + length (variables vs)) (closedRun r)
   pub ending : length m ≡ length head + 1 + length fixed + length vs + bit o + length (variables vs) + length (closedRun r)
 
-pub pieced : (o : Bool) (head : List ℕ) (kind : ℕ) (fixed : List ℕ) (vs : List (List ℕ)) (r : List ℕ) → Pieces (compactOf o head kind fixed vs r) o head kind fixed vs r
-unfolding compactOf
-pieced o head kind fixed vs r =
-    let m = compactOf o head kind fixed vs r in
-    let ps = pointers (gapOf o vs) vs in
-    let lp = runPointer o (ahead (gapOf o vs) vs) r in
-    let r₄ = variables vs ++ closedRun r in
-    let r₃ = lp ++ r₄ in
-    let r₂ = ps ++ r₃ in
-    let r₁ = (kind ∷ fixed) ++ r₂ in
-    let s₀ = within-self (compactOf o head kind fixed vs r) in
-    let s₁ : Within (compactOf o head kind fixed vs r) (length head) r₁ = within-at _ (omega arith) (within-right head r₁ s₀) in
-    let s₂ : Within (compactOf o head kind fixed vs r) (length head + 1 + length fixed) r₂ = within-at _ (omega arith) (within-right (kind ∷ fixed) r₂ s₁) in
-    let s₃ : Within (compactOf o head kind fixed vs r) (length head + 1 + length fixed + length vs) r₃ = within-at _ (omega (arith, length-pointers (gapOf o vs) vs)) (within-right ps r₃ s₂) in
-    let s₄ : Within (compactOf o head kind fixed vs r) (length head + 1 + length fixed + length vs + bit o) r₄ =
-    within-at _ (omega (arith, length-run-pointer o (ahead (gapOf o vs) vs) r)) (within-right lp r₄ s₃) in
-    record {
-      heads = within-left head r₁ s₀;
-      kinds = within-left (kind ∷ fixed) r₂ s₁;
-      pointing = within-left ps r₃ s₂;
-      lasts = within-left lp r₄ s₃;
-      contents = within-left (variables vs) (closedRun r) s₄;
-      optional = within-right (variables vs) (closedRun r) s₄;
-      ending =
-          omega (
-            arith,
-            length-append head r₁,
-            length-append (kind ∷ fixed) r₂,
-            length-append ps r₃,
-            length-append lp r₄,
-            length-append (variables vs) (closedRun r),
-            length-pointers (gapOf o vs) vs,
-            length-run-pointer o (ahead (gapOf o vs) vs) r,
-          );
-    }
+module _ (o : Bool) (head : List ℕ) (kind : ℕ) (fixed : List ℕ) (vs : List (List ℕ)) (r : List ℕ) where
+  -- the pointers, and the form from each piece on
+  abbrev ps : List ℕ
+  ps = pointers (gapOf o vs) vs
 
--- a message whose pieces stand so is the compact form
-pub assembled : {m : List ℕ} {o : Bool} {head : List ℕ} {kind : ℕ} {fixed : List ℕ} {vs : List (List ℕ)} {r : List ℕ} → Pieces m o head kind fixed vs r → m ≡ compactOf o head kind fixed vs r
-unfolding compactOf
-assembled {m} {o} {head} {kind} {fixed} {vs} {r} x =
-    let ps = pointers (gapOf o vs) vs in
-    let lp = runPointer o (ahead (gapOf o vs) vs) r in
-    let r₄ = variables vs ++ closedRun r in
-    let r₃ = lp ++ r₄ in
-    let r₂ = ps ++ r₃ in
-    let r₁ = (kind ∷ fixed) ++ r₂ in
-    let np = length-pointers (gapOf o vs) vs in
-    let nl = length-run-pointer o (ahead (gapOf o vs) vs) r in
-    let w₄ = within-join (variables vs) (closedRun r) (x .contents) (x .optional) in
-    let w₃ = within-join lp r₄ (x .lasts) (within-at _ (omega arith) w₄) in
-    let w₂ = within-join ps r₃ (x .pointing) (within-at _ (omega arith) w₃) in
-    let w₁ = within-join (kind ∷ fixed) r₂ (x .kinds) (within-at _ (omega arith) w₂) in
-    let w₀ = within-join head r₁ (x .heads) (within-at _ (omega arith) w₁) in
-    within-whole w₀ (x .ending ∙ sym (pieced o head kind fixed vs r .ending))
+  abbrev lp : List ℕ
+  lp = runPointer o (ahead (gapOf o vs) vs) r
+
+  abbrev r₄ : List ℕ
+  r₄ = variables vs ++ closedRun r
+
+  abbrev r₃ : List ℕ
+  r₃ = lp ++ r₄
+
+  abbrev r₂ : List ℕ
+  r₂ = ps ++ r₃
+
+  abbrev r₁ : List ℕ
+  r₁ = (kind ∷ fixed) ++ r₂
+
+  pub pieced : Pieces (compactOf o head kind fixed vs r) o head kind fixed vs r
+  unfolding compactOf
+  pieced =
+      let s₀ = within-self (compactOf o head kind fixed vs r) in
+      let s₁ : Within (compactOf o head kind fixed vs r) (length head) r₁ = within-at _ (omega arith) (within-right head r₁ s₀) in
+      let s₂ : Within (compactOf o head kind fixed vs r) (length head + 1 + length fixed) r₂ = within-at _ (omega arith) (within-right (kind ∷ fixed) r₂ s₁) in
+      let s₃ : Within (compactOf o head kind fixed vs r) (length head + 1 + length fixed + length vs) r₃ = within-at _ (omega (arith, length-pointers (gapOf o vs) vs)) (within-right ps r₃ s₂) in
+      let s₄ : Within (compactOf o head kind fixed vs r) (length head + 1 + length fixed + length vs + bit o) r₄ =
+      within-at _ (omega (arith, length-run-pointer o (ahead (gapOf o vs) vs) r)) (within-right lp r₄ s₃) in
+      record {
+        heads = within-left head r₁ s₀;
+        kinds = within-left (kind ∷ fixed) r₂ s₁;
+        pointing = within-left ps r₃ s₂;
+        lasts = within-left lp r₄ s₃;
+        contents = within-left (variables vs) (closedRun r) s₄;
+        optional = within-right (variables vs) (closedRun r) s₄;
+        ending =
+            omega (
+              arith,
+              length-append head r₁,
+              length-append (kind ∷ fixed) r₂,
+              length-append ps r₃,
+              length-append lp r₄,
+              length-append (variables vs) (closedRun r),
+              length-pointers (gapOf o vs) vs,
+              length-run-pointer o (ahead (gapOf o vs) vs) r,
+            );
+      }
+
+  -- a message whose pieces stand so is the compact form
+  pub assembled : {m : List ℕ} → Pieces m o head kind fixed vs r → m ≡ compactOf o head kind fixed vs r
+  unfolding compactOf
+  assembled x =
+      let np = length-pointers (gapOf o vs) vs in
+      let nl = length-run-pointer o (ahead (gapOf o vs) vs) r in
+      let w₄ = within-join (variables vs) (closedRun r) (x .contents) (x .optional) in
+      let w₃ = within-join lp r₄ (x .lasts) (within-at _ (omega arith) w₄) in
+      let w₂ = within-join ps r₃ (x .pointing) (within-at _ (omega arith) w₃) in
+      let w₁ = within-join (kind ∷ fixed) r₂ (x .kinds) (within-at _ (omega arith) w₂) in
+      let w₀ = within-join head r₁ (x .heads) (within-at _ (omega arith) w₁) in
+      within-whole w₀ (x .ending ∙ sym (pieced .ending))
