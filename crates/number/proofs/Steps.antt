@@ -1,12 +1,13 @@
 -- One step of a walk over signals, as a proof of the code cites it.
 use Prim.Native.Nat.{ℕ, suc, _+_, _*_, _/_, _%_, _<_, _≤_}
-use mathlib.Core.Path.{_≡_, sym, _∙_}
+use mathlib.Core.Path.{_≡_, sym, _∙_, ap}
 use mathlib.Core.Bool.{true, false}
 use mathlib.Core.List.{List, _∷_}
 use native.Mathlib.Omega.{arith}
 use borrow.Author.Tests.{lt-ltb, le-ltb}
 use lib.ListN.{length, getD, drop, set, drop-of-length-le}
 use lib.Seq.{drop-cons, sets}
+use denote.Ref.{RefT, now, at-last}
 use Rattle.number.specs.Halves.{octetOf, packed}
 use Rattle.number.specs.Contents.{countIn, signalsIn}
 use Rattle.number.specs.Write.{anyAbove15}
@@ -21,38 +22,38 @@ pub sets-more : (l : List ℕ) (i i′ k k′ v : ℕ) (xs : List ℕ) → k < l
 sets-more l i i′ k k′ v xs h e p q = rw (drop-cons xs k 0 h, e, p, q)
 
 -- none is left to read
-pub read-none : (contents l : List ℕ) (k : ℕ) → countIn contents ≤ k → l ≡ sets l k (drop k (signalsIn contents))
-read-none contents l k h = sym (sets-none l k k (signalsIn contents) (omega (arith, length-signals contents)))
+pub read-none : (contents : List ℕ) (x : RefT (List ℕ)) (k : ℕ) → countIn contents ≤ k → x ≡ at-last x (sets (now x) k (drop k (signalsIn contents)))
+read-none contents x k h = ap (at-last x) (sym (sets-none (now x) k k (signalsIn contents) (omega (arith, length-signals contents))))
 
 -- the low half of octet `at` of the signals is read, and then the rest
-pub read-low-more : (contents l : List ℕ) (at v : ℕ) → 2 * at < countIn contents → v ≡ getD contents (at + 2) 0 % 16 → sets (set l (2 * at) v) (2 * at + 1) (drop (2 * at + 1) (signalsIn contents)) ≡ sets l (2 * at) (drop (2 * at) (signalsIn contents))
-read-low-more contents l at v h e =
-    sets-more l (2 * at) (2 * at + 1) (2 * at) (2 * at + 1) v (signalsIn contents) (omega (arith, length-signals contents)) (e ∙ sym (signal-low contents at h)) (omega arith) (omega arith)
+pub read-low-more : (contents : List ℕ) (x : RefT (List ℕ)) {y : RefT (List ℕ)} (at v : ℕ) → 2 * at < countIn contents → y ≡ at-last x (sets (set (now x) (2 * at) v) (2 * at + 1) (drop (2 * at + 1) (signalsIn contents))) → v ≡ getD contents (at + 2) 0 % 16 → y ≡ at-last x (sets (now x) (2 * at) (drop (2 * at) (signalsIn contents)))
+read-low-more contents x at v h rest e =
+    rest ∙ ap (at-last x) (sets-more (now x) (2 * at) (2 * at + 1) (2 * at) (2 * at + 1) v (signalsIn contents) (omega (arith, length-signals contents)) (e ∙ sym (signal-low contents at h)) (omega arith) (omega arith))
 
 -- the high half of octet `at` of the signals is read, and then the rest
-pub read-high-more : (contents l : List ℕ) (at v : ℕ) → 2 * at + 1 < countIn contents → v ≡ getD contents (at + 2) 0 / 16 → sets (set l (2 * at + 1) v) (2 * (at + 1)) (drop (2 * (at + 1)) (signalsIn contents)) ≡ sets l (2 * at + 1) (drop (2 * at + 1) (signalsIn contents))
-read-high-more contents l at v h e =
-    sets-more l (2 * at + 1) (2 * (at + 1)) (2 * at + 1) (2 * (at + 1)) v (signalsIn contents) (omega (arith, length-signals contents)) (e ∙ sym (signal-high contents at h)) (omega arith) (omega arith)
+pub read-high-more : (contents : List ℕ) (x : RefT (List ℕ)) {y : RefT (List ℕ)} (at v : ℕ) → 2 * at + 1 < countIn contents → y ≡ at-last x (sets (set (now x) (2 * at + 1) v) (2 * (at + 1)) (drop (2 * (at + 1)) (signalsIn contents))) → v ≡ getD contents (at + 2) 0 / 16 → y ≡ at-last x (sets (now x) (2 * at + 1) (drop (2 * at + 1) (signalsIn contents)))
+read-high-more contents x at v h rest e =
+    rest ∙ ap (at-last x) (sets-more (now x) (2 * at + 1) (2 * (at + 1)) (2 * at + 1) (2 * (at + 1)) v (signalsIn contents) (omega (arith, length-signals contents)) (e ∙ sym (signal-high contents at h)) (omega arith) (omega arith))
 
 -- the next signal is taken for a low half
-pub write-taken : (signals l : List ℕ) (i k k′ : ℕ) → k < length signals → k′ ≡ suc k → sets l i (packed (getD signals k 0 ∷ drop k′ signals)) ≡ sets l i (packed (drop k signals))
-write-taken signals l i k k′ h e = rw (drop-cons signals k 0 h, ← e)
+pub write-taken : (signals : List ℕ) (x : RefT (List ℕ)) {y : RefT (List ℕ)} (i k k′ : ℕ) → k < length signals → k′ ≡ suc k → y ≡ at-last x (sets (now x) i (packed (getD signals k 0 ∷ drop k′ signals))) → y ≡ at-last x (sets (now x) i (packed (drop k signals)))
+write-taken signals x i k k′ h e q = rw (drop-cons signals k 0 h, ← e) q
 
 -- none is left to write
-pub write-none : (signals l : List ℕ) (i k : ℕ) → length signals ≤ k → l ≡ sets l i (packed (drop k signals))
+pub write-none : (signals : List ℕ) (x : RefT (List ℕ)) (i k : ℕ) → length signals ≤ k → x ≡ at-last x (sets (now x) i (packed (drop k signals)))
 unfolding packed
-write-none signals l i k h = rw (drop-of-length-le signals h)
+write-none signals x i k h = rw (drop-of-length-le signals h)
 
 -- the last signal is written over filler 0
-pub write-last : (signals l : List ℕ) (i k low : ℕ) → length signals ≤ k → set l i low ≡ sets l i (packed (low ∷ drop k signals))
+pub write-last : (signals : List ℕ) (x : RefT (List ℕ)) (i k low : ℕ) → length signals ≤ k → at-last x (set (now x) i low) ≡ at-last x (sets (now x) i (packed (low ∷ drop k signals)))
 unfolding packed
-write-last signals l i k low h =
+write-last signals x i k low h =
     let e : low + 16 * 0 ≡ low = omega arith in rw (drop-of-length-le signals h, e)
 
 -- two signals are written as one octet, and then the rest
-pub write-both : (signals l : List ℕ) (i i′ k k′ low v : ℕ) → k < length signals → i′ ≡ suc i → k′ ≡ suc k → v ≡ octetOf low (getD signals k 0) → sets (set l i v) i′ (packed (drop k′ signals)) ≡ sets l i (packed (low ∷ drop k signals))
+pub write-both : (signals : List ℕ) (x : RefT (List ℕ)) {y : RefT (List ℕ)} (i i′ k k′ low v : ℕ) → k < length signals → i′ ≡ suc i → k′ ≡ suc k → y ≡ at-last x (sets (set (now x) i v) i′ (packed (drop k′ signals))) → v ≡ octetOf low (getD signals k 0) → y ≡ at-last x (sets (now x) i (packed (low ∷ drop k signals)))
 unfolding packed
-write-both signals l i i′ k k′ low v h p q e = rw (drop-cons signals k 0 h, p, q, e)
+write-both signals x i i′ k k′ low v h p q rest e = rest ∙ rw (drop-cons signals k 0 h, p, q, e)
 
 -- a signal above 15 is found
 pub above-here : (signals : List ℕ) (i : ℕ) → i < length signals → 15 < getD signals i 0 → anyAbove15 (drop i signals) ≡ true

@@ -1,3 +1,5 @@
+use borrow.Author.Tests.{le-ltb, eq-eqb, ne-eqb}
+use mathlib.Core.Path.{refl}
 use Rattle.hub.specs.Asks.{brokenGroup}
 use Rattle.octets.proofs.Tests.{tests}
 use native.Mathlib.Omega.{arith}
@@ -48,7 +50,7 @@ add-t15 c = search needs
 
 returns-6 : tie.Need-returns-6
 unfolding brokenGroup
-returns-6 c = search tests
+returns-6 c = rw (le-ltb _ _ (c .before .before .before .before .before .before .if1 .left), ne-eqb _ _ (c .before .before .before .before .if2 .left), ne-eqb _ _ (c .before .before .if3 .left), eq-eqb _ _ (c .before .if4 .left), le-ltb _ _ (c .if5 .left)) refl
 
 pub ask-group-spec : {M : Type 1} → statement M
 ask-group-spec =

@@ -1,3 +1,5 @@
+use borrow.Author.Tests.{ne-eqb}
+use mathlib.Core.Path.{refl}
 use Rattle.hub.specs.Rows.{blockedRow}
 use Rattle.octets.proofs.Tests.{tests}
 use borrow.Author.Needs.{needs}
@@ -31,7 +33,7 @@ mul-result-3 c = search needs
 
 returns-2 : tie.Need-returns-2
 unfolding blockedRow
-returns-2 c = search tests
+returns-2 c = rw (ne-eqb (c .before .args .block) 0 (c .if1 .left)) refl
 
 pub blocked-spec : {M : Type 1} → statement M
 blocked-spec =

@@ -1,3 +1,5 @@
+use borrow.Author.Tests.{eq-eqb}
+use mathlib.Core.Path.{refl}
 use Rattle.octets.proofs.Tests.{tests}
 use native.Mathlib.Omega.{arith}
 use borrow.Author.Needs.{needs}
@@ -5,7 +7,7 @@ use Rattle.hub.proofs.mine.Statement.{statement}
 use Rattle.hub.proofs.mine.Tie as tie
 
 returns : tie.Need-returns
-returns c = search tests
+returns c = rw (eq-eqb (c .before .args .sender) 0 (c .if1 .taken)) refl
 
 shared-slice-read-result : tie.Need-shared-slice-read-result
 shared-slice-read-result c = search needs

@@ -1,3 +1,5 @@
+use borrow.Author.Tests.{le-leb}
+use mathlib.Core.Path.{refl}
 use Rattle.octets.proofs.Tests.{tests}
 use Rattle.layout.specs.Container.{sharesOf}
 use Rattle.layout.proofs.shares.Statement.{statement}
@@ -5,7 +7,7 @@ use Rattle.layout.proofs.shares.Tie as tie
 
 returns : tie.Need-returns
 unfolding sharesOf
-returns c = search tests
+returns c = let x = c .before .before .before .args in rw (le-leb (x .b .to) (x .a .from) (c .if1 .taken)) refl
 
 returns-2 : tie.Need-returns-2
 unfolding sharesOf

@@ -1,9 +1,11 @@
+use mathlib.Core.Path.{sym}
 use native.Mathlib.Omega.{arith}
 use Rattle.octets.proofs.Tests.{tests}
 use Prim.Native.Nat.{_+_, _<_}
 use denote.Ref.{now}
 use lib.ListN.{length}
 use Rattle.layout.specs.Run.{next, stepAt}
+use Rattle.layout.proofs.Steps.{at-param}
 use borrow.Author.Needs.{needs}
 use Rattle.layout.proofs.step_at.Statement.{statement}
 use Rattle.layout.proofs.step_at.Tie as tie
@@ -45,8 +47,7 @@ unfolding stepAt
 returns-4 c = search tests
 
 returns-5 : tie.Need-returns-5
-unfolding stepAt
-returns-5 c = search tests
+returns-5 c = let a = c .before .before .before .before .before .before .args in sym (at-param (now (a .octets)) (a .i) (c .before .before .before .if2 .left) (omega arith))
 
 pub step-at-spec : {M : Type 1} → statement M
 step-at-spec =

@@ -1,3 +1,7 @@
+use Rattle.layout.specs.Container.{target}
+use borrow.Author.Tests.{lt-ltb}
+use denote.Ref.{now}
+use mathlib.Core.Path.{refl}
 use native.Mathlib.Omega.{arith}
 use Rattle.octets.proofs.Tests.{tests}
 use borrow.Author.Needs.{needs}
@@ -14,7 +18,7 @@ add-t : tie.Need-add-t
 add-t c = omega (arith, c .shared-slice-known .given (c .before .args .p))
 
 returns : tie.Need-returns
-returns c = search tests
+returns c = let a = c .before .before .args in rw (lt-ltb (target (now (a .octets)) (a .p)) (a .end) (c .if1 .taken)) refl
 
 returns-2 : tie.Need-returns-2
 returns-2 c = search tests

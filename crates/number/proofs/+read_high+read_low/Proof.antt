@@ -1,8 +1,8 @@
-use mathlib.Core.Path.{refl, _∙_, ap}
+use mathlib.Core.Path.{refl}
 use Prim.Native.Nat.{ℕ, _+_, _*_, _<_}
 use native.Mathlib.Omega.{arith}
 use lib.ListN.{length-set}
-use denote.Ref.{now, at-last}
+use denote.Ref.{now}
 use Rattle.number.proofs.Steps.{read-none, read-low-more, read-high-more}
 use borrow.Fn.Kinds.{In}
 use borrow.Fn.PlainCycle.{Measures, is, falls, and}
@@ -40,7 +40,7 @@ read-high-returns :
     (t : ℕ) →
     read-high-lts.Need-returns (read-low-below t, read-low.Post) (read-high-at t) read-high.Post
 read-high-returns t c =
-    let a = c .before .args in ap (at-last (now (a .signals))) (read-none (now (now (a .contents))) (now (now (a .signals))) (2 * a .at + 1) (omega arith))
+    let a = c .before .args in read-none (now (now (a .contents))) (now (a .signals)) (2 * a .at + 1) (omega arith)
 
 -- src/lib.rt:74:36
 read-high-add-signals :
@@ -108,14 +108,14 @@ read-high-returns-2 :
     read-high-lts.Need-returns-2 (read-low-below t, read-low.Post) (read-high-at t) read-high.Post
 read-high-returns-2 t c =
     let a = c .before .before .before .before .args in
-    c .read-low .ensures ∙ ap (at-last (now (a .signals))) (read-high-more (now (now (a .contents))) (now (now (a .signals))) (a .at) _ (omega arith) refl)
+    read-high-more (now (now (a .contents))) (now (a .signals)) (a .at) _ (omega arith) (c .read-low .ensures) refl
 
 -- src/lib.rt:60:9
 read-low-returns :
     (t : ℕ) →
     read-low-lts.Need-returns (read-high-below t, read-high.Post) (read-low-at t) read-low.Post
 read-low-returns t c =
-    let a = c .before .args in ap (at-last (now (a .signals))) (read-none (now (now (a .contents))) (now (now (a .signals))) (2 * a .at) (omega arith))
+    let a = c .before .args in read-none (now (now (a .contents))) (now (a .signals)) (2 * a .at) (omega arith)
 
 -- src/lib.rt:62:32
 read-low-add-signals :
@@ -169,7 +169,7 @@ read-low-returns-2 :
     read-low-lts.Need-returns-2 (read-high-below t, read-high.Post) (read-low-at t) read-low.Post
 read-low-returns-2 t c =
     let a = c .before .before .before .before .args in
-    c .read-high .ensures ∙ ap (at-last (now (a .signals))) (read-low-more (now (now (a .contents))) (now (now (a .signals))) (a .at) _ (omega arith) refl)
+    read-low-more (now (now (a .contents))) (now (a .signals)) (a .at) _ (omega arith) (c .read-high .ensures) refl
 
 pub +read-high+read-low-spec : {M : Type 1} → statement M
 +read-high+read-low-spec = close μ-read-high μ-read-low (λ t. read-high-lts.spec (

@@ -1,8 +1,8 @@
-use mathlib.Core.Path.{refl, _∙_, ap}
+use mathlib.Core.Path.{refl}
 use Prim.Native.Nat.{ℕ, _+_, _*_, _<_}
 use native.Mathlib.Omega.{arith}
 use lib.ListN.{length-set}
-use denote.Ref.{now, at-last}
+use denote.Ref.{now}
 use Rattle.number.specs.Laws.{none-above}
 use Rattle.number.proofs.Steps.{write-taken, write-none, write-last, write-both}
 use borrow.Fn.Kinds.{In}
@@ -61,7 +61,7 @@ write-high-returns :
     (write-high-at t)
     write-high.Post
 write-high-returns t c =
-    let a = c .before .args in ap (at-last (now (a .out))) (write-last (now (now (a .signals))) (now (now (a .out))) (a .at + 2) (2 * a .at + 1) (a .low) (omega arith))
+    let a = c .before .args in write-last (now (now (a .signals))) (now (a .out)) (a .at + 2) (2 * a .at + 1) (a .low) (omega arith)
 
 -- src/lib.rt:152:38
 write-high-mul-out :
@@ -155,7 +155,7 @@ write-high-returns-2 :
     write-high.Post
 write-high-returns-2 t c =
     let a = c .before .before .before .before .args in
-    c .write-low .ensures ∙ ap (at-last (now (a .out))) (write-both (now (now (a .signals))) (now (now (a .out))) (a .at + 2) (a .at + 1 + 2) (2 * a .at + 1) (2 * (a .at + 1)) (a .low) _ (omega arith) (omega arith) (omega arith) refl)
+    write-both (now (now (a .signals))) (now (a .out)) (a .at + 2) (a .at + 1 + 2) (2 * a .at + 1) (2 * (a .at + 1)) (a .low) _ (omega arith) (omega arith) (omega arith) (c .write-low .ensures) refl
 
 -- src/lib.rt:138:9
 write-low-returns :
@@ -165,7 +165,7 @@ write-low-returns :
     (write-low-at t)
     write-low.Post
 write-low-returns t c =
-    let a = c .before .args in ap (at-last (now (a .out))) (write-none (now (now (a .signals))) (now (now (a .out))) (a .at + 2) (2 * a .at) (omega arith))
+    let a = c .before .args in write-none (now (now (a .signals))) (now (a .out)) (a .at + 2) (2 * a .at) (omega arith)
 
 -- src/lib.rt:140:34
 write-low-sub-write-high : (t : ℕ) → write-low-lts.Need-sub-write-high (
@@ -206,7 +206,7 @@ write-low-returns-2 :
     write-low.Post
 write-low-returns-2 t c =
     let a = c .before .before .before .before .args in
-    c .write-high .ensures ∙ ap (at-last (now (a .out))) (write-taken (now (now (a .signals))) (now (now (a .out))) (a .at + 2) (2 * a .at) (2 * a .at + 1) (omega arith) (omega arith))
+    write-taken (now (now (a .signals))) (now (a .out)) (a .at + 2) (2 * a .at) (2 * a .at + 1) (omega arith) (omega arith) (c .write-high .ensures)
 
 pub +write-high+write-low-spec : {M : Type 1} → statement M
 +write-high+write-low-spec = close μ-write-high μ-write-low (λ t. write-high-lts.spec (

@@ -63,7 +63,7 @@ returns-5 c =
 
 -- src/lib.rt:109:5
 read-signals-requires : tie.Need-read-signals-requires
-read-signals-requires c κs = search needs
+read-signals-requires c κs = omega arith
 
 -- src/lib.rt:111:17
 shared-slice-read-t9 : tie.Need-shared-slice-read-t9
