@@ -3,7 +3,6 @@
 --     lends-slot       the local, the slice and a token of κ  ⊢ ⇛ ∃ ν δ. tokens for the call ∗ the reference to the local, under δ ∗ what the lender keeps
 --     slot-back        tokens ∗ what the lender keeps ∗ the last value under δ is the reference y  ⊢ ⇛ (the local, which holds y ∗ what y owns ∗ the token of κ)
 -- Assumes `Given`.
-use mathlib.Core.Path.{refl}
 use Prim.Native.Nat.{ℕ}
 use mathlib.Core.List.{List, [], _∷_}
 use lib.ListN.{length}
@@ -21,7 +20,7 @@ use types.SemTy.{Body}
 use denote.RattleType.{RattleType}
 use denote.Laws.{Is, shows}
 use denote.Memory.{mem, cellAt, partOf, pointee}
-use denote.Ref.{RefT, MutRef, ptr, now}
+use denote.Ref.{MutRef, ptr, now}
 use denote.Slice.{sliceVal, sliceTy, MutSlice, slice-vals, mut-slice-tells}
 use denote.Lend.{lends-ref, ref-back}
 use denote.Struct.Steps.{spelt}

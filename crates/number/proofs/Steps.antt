@@ -1,5 +1,5 @@
 -- One step of a walk over signals, as a proof of the code cites it.
-use Prim.Native.Nat.{ℕ, suc, _+_, _*_, _/_, _%_, _<_, _≤_}
+use Prim.Native.Nat.{ℕ, suc, _+_, _*_, _<_, _≤_}
 use mathlib.Core.Path.{_≡_, sym, _∙_, ap}
 use mathlib.Core.Bool.{true, false}
 use mathlib.Core.List.{List, _∷_}
@@ -11,7 +11,7 @@ use denote.Ref.{RefT, now, at-last}
 use Rattle.number.specs.Halves.{octetOf, packed}
 use Rattle.number.specs.Contents.{countIn, signalsIn}
 use Rattle.number.specs.Write.{anyAbove15}
-use Rattle.number.specs.Laws.{length-signals, signal-low, signal-high}
+use Rattle.number.specs.Laws.{length-signals}
 
 -- nothing is left to store
 pub sets-none : (l : List ℕ) (i k : ℕ) (xs : List ℕ) → length xs ≤ k → sets l i (drop k xs) ≡ l
@@ -25,15 +25,10 @@ sets-more l i i′ k k′ v xs h e p q = rw (drop-cons xs k 0 h, e, p, q)
 pub read-none : (contents : List ℕ) (x : RefT (List ℕ)) (k : ℕ) → countIn contents ≤ k → x ≡ at-last x (sets (now x) k (drop k (signalsIn contents)))
 read-none contents x k h = ap (at-last x) (sym (sets-none (now x) k k (signalsIn contents) (omega (arith, length-signals contents))))
 
--- the low half of octet `at` of the signals is read, and then the rest
-pub read-low-more : (contents : List ℕ) (x : RefT (List ℕ)) {y : RefT (List ℕ)} (at v : ℕ) → 2 * at < countIn contents → y ≡ at-last x (sets (set (now x) (2 * at) v) (2 * at + 1) (drop (2 * at + 1) (signalsIn contents))) → v ≡ getD contents (at + 2) 0 % 16 → y ≡ at-last x (sets (now x) (2 * at) (drop (2 * at) (signalsIn contents)))
-read-low-more contents x at v h rest e =
-    rest ∙ ap (at-last x) (sets-more (now x) (2 * at) (2 * at + 1) (2 * at) (2 * at + 1) v (signalsIn contents) (omega (arith, length-signals contents)) (e ∙ sym (signal-low contents at h)) (omega arith) (omega arith))
-
--- the high half of octet `at` of the signals is read, and then the rest
-pub read-high-more : (contents : List ℕ) (x : RefT (List ℕ)) {y : RefT (List ℕ)} (at v : ℕ) → 2 * at + 1 < countIn contents → y ≡ at-last x (sets (set (now x) (2 * at + 1) v) (2 * (at + 1)) (drop (2 * (at + 1)) (signalsIn contents))) → v ≡ getD contents (at + 2) 0 / 16 → y ≡ at-last x (sets (now x) (2 * at + 1) (drop (2 * at + 1) (signalsIn contents)))
-read-high-more contents x at v h rest e =
-    rest ∙ ap (at-last x) (sets-more (now x) (2 * at + 1) (2 * (at + 1)) (2 * at + 1) (2 * (at + 1)) v (signalsIn contents) (omega (arith, length-signals contents)) (e ∙ sym (signal-high contents at h)) (omega arith) (omega arith))
+-- signal k is read, and then the rest
+pub read-more : (contents : List ℕ) (x : RefT (List ℕ)) {y : RefT (List ℕ)} (k k′ v : ℕ) → k < countIn contents → k′ ≡ suc k → y ≡ at-last x (sets (set (now x) k v) k′ (drop k′ (signalsIn contents))) → v ≡ getD (signalsIn contents) k 0 → y ≡ at-last x (sets (now x) k (drop k (signalsIn contents)))
+read-more contents x k k′ v h e rest is =
+    rest ∙ ap (at-last x) (sets-more (now x) k k′ k k′ v (signalsIn contents) (omega (arith, length-signals contents)) is e e)
 
 -- the next signal is taken for a low half
 pub write-taken : (signals : List ℕ) (x : RefT (List ℕ)) {y : RefT (List ℕ)} (i k k′ : ℕ) → k < length signals → k′ ≡ suc k → y ≡ at-last x (sets (now x) i (packed (getD signals k 0 ∷ drop k′ signals))) → y ≡ at-last x (sets (now x) i (packed (drop k signals)))

@@ -1,9 +1,10 @@
-use mathlib.Core.Path.{refl}
+use mathlib.Core.Path.{sym}
 use Prim.Native.Nat.{ℕ, _+_, _*_, _<_}
 use native.Mathlib.Omega.{arith}
 use lib.ListN.{length-set}
 use denote.Ref.{now}
-use Rattle.number.proofs.Steps.{read-none, read-low-more, read-high-more}
+use Rattle.number.specs.Laws.{signal-low, signal-high}
+use Rattle.number.proofs.Steps.{read-none, read-more}
 use borrow.Fn.Kinds.{In}
 use borrow.Fn.PlainCycle.{Measures, is, falls, and}
 use Rattle.number.proofs.read_high.Reads as read-high
@@ -108,7 +109,7 @@ read-high-returns-2 :
     read-high-lts.Need-returns-2 (read-low-below t, read-low.Post) (read-high-at t) read-high.Post
 read-high-returns-2 t c =
     let a = c .before .before .before .before .args in
-    read-high-more (now (now (a .contents))) (now (a .signals)) (a .at) _ (omega arith) (c .read-low .ensures) refl
+    read-more (now (now (a .contents))) (now (a .signals)) (2 * a .at + 1) (2 * (a .at + 1)) _ (omega arith) (omega arith) (c .read-low .ensures) (sym (signal-high (now (now (a .contents))) (a .at) (omega arith)))
 
 -- src/lib.rt:60:9
 read-low-returns :
@@ -169,7 +170,7 @@ read-low-returns-2 :
     read-low-lts.Need-returns-2 (read-high-below t, read-high.Post) (read-low-at t) read-low.Post
 read-low-returns-2 t c =
     let a = c .before .before .before .before .args in
-    read-low-more (now (now (a .contents))) (now (a .signals)) (a .at) _ (omega arith) (c .read-high .ensures) refl
+    read-more (now (now (a .contents))) (now (a .signals)) (2 * a .at) (2 * a .at + 1) _ (omega arith) (omega arith) (c .read-high .ensures) (sym (signal-low (now (now (a .contents))) (a .at) (omega arith)))
 
 pub +read-high+read-low-spec : {M : Type 1} → statement M
 +read-high+read-low-spec = close μ-read-high μ-read-low (λ t. read-high-lts.spec (
