@@ -1,48 +1,48 @@
 -- No answer's line is long: the desk's buffer has room for each, so nothing of it is left out.
-use Prim.Native.Nat.{ℕ, zero, suc, _+_, _*_, _-_, _/_, _%_, _≤_, _<_, min}
+use Prim.Native.Nat.{ℕ, zero, suc, _+_, _*_, _-_, _/_, _%_, _≤_}
 use Prim.Native.String.{String}
 use mathlib.Core.Path.{_≡_, refl, sym, _∙_, ap}
 use mathlib.Core.Bool.{Bool, true, false}
 use mathlib.Core.List.{List, [], _∷_, _++_}
 use native.Mathlib.Omega.{arith}
-use native.Mathlib.Decide.{decLt}
-use borrow.Author.Tests.{ltb-false, eqb-true}
+use borrow.Author.Tests.{le-ltb, ltb-false, eqb-true}
 use lib.Dec.{ltb, eqb}
 use lib.ListN.{length, take, drop, replicate, length-append, length-take, length-drop, length-replicate}
 use Rattle.octets.specs.Octet.{octets}
 use Rattle.octets.specs.Choice.{if_then_else_}
 use Rattle.octets.specs.Answer.{Answer, accepted, refused, _then_}
-use Rattle.octets.specs.Filled.{Done, done, filled, roomFor}
+use Rattle.octets.specs.Filled.{done, roomFor}
 use Rattle.layout.specs.declared.Row.{Row}
 use Rattle.layout.specs.declared.Row.the-variants.{Has, Unknown}
 use Rattle.layout.specs.declared.Span.{Span}
 use Rattle.layout.specs.declared.Parts.{Parts}
-use Rattle.writing.specs.Compact.{partOf}
+use Rattle.layout.specs.Spans.{partOf}
 use Rattle.isup.specs.declared.Message.{Message}
-use Rattle.isup.specs.Find.{Spot}
+use Rattle.finding.specs.Find.{Spot, locateOf}
 use Rattle.number.specs.declared.Number.{Number}
 use Rattle.isup.specs.Table.{shapeOf}
 use Rattle.isup.specs.Read.{readOf}
-use Rattle.isup.specs.Find.{locateOf}
 use Rattle.isup.specs.Write.{writeIn, writeOf, compactIn, compactOf}
 use Rattle.number.specs.Read.{numberIn, readNumberOf}
-use Rattle.number.specs.Write.{octetsOf, writeNumberOf}
-use Rattle.hub.specs.Acts.{actOf}
+use Rattle.number.specs.Write.{numberOctets, writeNumberOf}
+use Rattle.hub.specs.Tables.{Tables, tables}
 use Rattle.hub.proofs.Called.{buffer-length}
 use Rattle.words.specs.Said.{said}
-use Rattle.printing.specs.Sheet.{Sheet, sheet, pour}
-use Rattle.printing.proofs.Pours.{pour-one, pour-append}
-use Rattle.requests.specs.declared.Request.{Request}
-use Rattle.requests.specs.declared.Request.the-variants.{Shape, Read, Write, Compact, Find, Number as Digits, Dial, Own, Set, Act, Rows, Bad}
-use Rattle.requests.specs.Requests.{requestOf}
-use Rattle.requests.specs.Forms.{octetsIn}
-use Rattle.requests.proofs.Formed.{request-long}
+use Rattle.printing.specs.Sheet.{sheet, pour}
 use Rattle.printing.specs.Shown.{decimalIn, decimalOf, hexPairs, hexOf}
-use Rattle.answers.specs.Lines.{counted, shown, refusal, optionalWord, shapeLine, partsLine, readLine, writtenLine, foundLine, signalsLine, replyLine, rowsLine}
-use Rattle.answers.specs.Turns.{blank, lent, turn, turnFor, turnOf, Left}
-use Rattle.answers.proofs.Octets.{octets-half}
-use Rattle.answers.proofs.Pouring.{poured-front}
-use Rattle.answers.proofs.Determined.{Answers}
+use Rattle.printing.proofs.Pours.{pour-one, pour-append}
+use Rattle.requests.specs.Kinds.{FieldSays}
+use Rattle.requests.specs.Rows.{SHAPE, READ, WRITE, COMPACT, NUMBER, OWN, SET, ACT}
+use Rattle.requests.specs.Words.{Asked, asks, nothing, askedOf, numberAt, octetAt, octetsAt}
+use Rattle.requests.proofs.Sound.{Short, short}
+use Rattle.lines.specs.Lines.{counted, shown, refusal, writtenLine, octetsLine, blank, lent}
+use Rattle.lines.proofs.Pouring.{poured-front}
+use Rattle.read_lines.specs.Read.{optionalWord, shapeLine, partsLine, readLine}
+use Rattle.codec_lines.specs.Codec.{foundLine, codecLine}
+use Rattle.number_lines.specs.Numbers.{signalsLine, numberLine, numbersLine}
+use Rattle.table_lines.specs.Tables.{Turn, turn, Left, left, leftBy, spread, rowsLine, tableTurn, replyLine, actsOf, actTurn}
+use Rattle.answers.specs.Turns.{badTurn, turnBy, turnFor, turnOf, turnIn, withLineEnd}
+use Rattle.answers.proofs.Determined.{AnswersLine}
 
 -- ten digits at the most
 decimal-length : (k n : ℕ) → length (decimalIn k n) ≤ k
@@ -158,53 +158,95 @@ lent-length : (room : ℕ) → length (lent room) ≤ 1024
 unfolding blank
 lent-length room = omega (arith, length-take {A = ℕ} room (replicate 1024 0), length-replicate {A = ℕ} 1024 0)
 
--- each request, with a line of up to 8192 octets and a table of 4096 rows
-request-fits : (line states owners : List ℕ) → length line ≤ 8192 → length states ≤ 4096 → (r : Request) → length (turnFor line states owners r .line) ≤ 40000
-unfolding turnFor writeOf compactOf
-request-fits line states owners h k (Shape kind) = omega (arith, shape-fits (shapeOf kind))
-request-fits line states owners h k (Read message) = omega (arith, read-fits 4096 (octetsIn line message) (omega (arith, octets-half line message)) (readOf (octetsIn line message)))
-request-fits line states owners h k (Write circuit kind fixed first second optional room) =
-    let d = writeOf circuit kind (octetsIn line fixed) (octetsIn line first) (octetsIn line second) (octetsIn line optional) (lent room) in
-    omega (arith, written-fits 1024 (d .left) (omega (arith, lent-length room, done-length (lent room) (writeIn circuit kind (octetsIn line fixed) (octetsIn line first) (octetsIn line second) (octetsIn line optional)))) (d .answer))
-request-fits line states owners h k (Compact message room) =
-    let d = compactOf (octetsIn line message) (lent room) in
-    omega (arith, written-fits 1024 (d .left) (omega (arith, lent-length room, done-length (lent room) (compactIn (octetsIn line message)))) (d .answer))
-request-fits line states owners h k (Find name message defaults) =
-    omega (arith, found-fits 4096 (octetsIn line message) (omega (arith, octets-half line message)) (octetsIn line defaults) (omega (arith, octets-half line defaults)) (locateOf (octetsIn line message) (octetsIn line defaults) name))
-request-fits line states owners h k (Digits contents room) =
-    let d = readNumberOf (octetsIn line contents) (lent room) in
-    omega (arith, signals-fit 1024 (d .left) (omega (arith, lent-length room, done-length (lent room) (numberIn (octetsIn line contents)))) (d .answer))
-request-fits line states owners h k (Dial nature plan internal signals room) =
-    let d = writeNumberOf nature plan internal (octetsIn line signals) (lent room) in
-    omega (arith, written-fits 1024 (d .left) (omega (arith, lent-length room, done-length (lent room) (octetsOf nature plan internal (octetsIn line signals)))) (d .answer))
-request-fits line states owners h k (Own first last sender) = omega arith
-request-fits line states owners h k (Set first last state) = omega arith
-request-fits line states owners h k (Act sender message room) =
-    let a = actOf states owners sender (octetsIn line message) (lent room) in
-    omega (arith, reply-fits 1024 (a .buffer) (omega (arith, lent-length room, buffer-length states owners sender (octetsIn line message) (lent room))) (a .answer))
-request-fits line states owners h k (Rows first last) = omega (arith, rows-fit 4096 states k first last)
-request-fits line states owners h k Bad = omega arith
+-- what a request's fields hold is short
+abbrev ShortAll : List FieldSays → Type 0
+ShortAll gs = (i : ℕ) → length (octetsAt gs i) ≤ 1024
 
--- a line that is too long is no request
-any-fits : (line states owners : List ℕ) → length states ≤ 4096 → Dec (8192 < length line) → length (turnFor line states owners (requestOf line) .line) ≤ 40000
-unfolding turnFor
-any-fits line states owners k (yes h) = rw (request-long line h) (omega arith)
-any-fits line states owners k (no h) = request-fits line states owners (omega arith) k (requestOf line)
+module _ (which : ℕ) (gs : List FieldSays) (h : ShortAll gs) where
+  -- the codec's requests
+  codec-fits : length (codecLine which gs) ≤ 40000
+  unfolding codecLine writeOf compactOf
+  codec-fits = go (eqb which SHAPE) (eqb which READ) (eqb which WRITE) (eqb which COMPACT)
+    where
+      go : (a b c d : Bool) → length (if a then shapeLine (shapeOf (octetAt gs 0))
+          else if b then readLine (octetsAt gs 0) (readOf (octetsAt gs 0))
+          else if c then octetsLine (writeOf (numberAt gs 0) (numberAt gs 1) (octetsAt gs 2) (octetsAt gs 3) (octetsAt gs 4) (octetsAt gs 5) (lent (numberAt gs 6)))
+          else if d then octetsLine (compactOf (octetsAt gs 0) (lent (numberAt gs 1)))
+          else foundLine (octetsAt gs 1) (octetsAt gs 2) (locateOf (octetsAt gs 1) (octetsAt gs 2) (numberAt gs 0))) ≤ 40000
+      go true b c d = omega (arith, shape-fits (shapeOf (octetAt gs 0)))
+      go false true c d = omega (arith, read-fits 1024 (octetsAt gs 0) (h 0) (readOf (octetsAt gs 0)))
+      go false false true d =
+          let x = writeOf (numberAt gs 0) (numberAt gs 1) (octetsAt gs 2) (octetsAt gs 3) (octetsAt gs 4) (octetsAt gs 5) (lent (numberAt gs 6)) in
+          omega (arith, written-fits 1024 (x .left) (omega (arith, lent-length (numberAt gs 6), done-length (lent (numberAt gs 6)) (writeIn (numberAt gs 0) (numberAt gs 1) (octetsAt gs 2) (octetsAt gs 3) (octetsAt gs 4) (octetsAt gs 5)))) (x .answer))
+      go false false false true =
+          let x = compactOf (octetsAt gs 0) (lent (numberAt gs 1)) in
+          omega (arith, written-fits 1024 (x .left) (omega (arith, lent-length (numberAt gs 1), done-length (lent (numberAt gs 1)) (compactIn (octetsAt gs 0)))) (x .answer))
+      go false false false false = omega (arith, found-fits 1024 (octetsAt gs 1) (h 1) (octetsAt gs 2) (h 2) (locateOf (octetsAt gs 1) (octetsAt gs 2) (numberAt gs 0)))
 
--- whatever is asked
-pub answer-fits : (line states owners : List ℕ) → length (turnOf line states owners .line) ≤ 40000
+  -- those for numbers
+  numbers-fit : length (numbersLine which gs) ≤ 40000
+  unfolding numbersLine
+  numbers-fit = go (eqb which NUMBER)
+    where
+      go : (a : Bool) → length (if a then numberLine (readNumberOf (octetsAt gs 0) (lent (numberAt gs 1))) else octetsLine (writeNumberOf (numberAt gs 0) (numberAt gs 1) (numberAt gs 2) (octetsAt gs 3) (lent (numberAt gs 4)))) ≤ 40000
+      go true =
+          let x = readNumberOf (octetsAt gs 0) (lent (numberAt gs 1)) in
+          omega (arith, signals-fit 1024 (x .left) (omega (arith, lent-length (numberAt gs 1), done-length (lent (numberAt gs 1)) (numberIn (octetsAt gs 0)))) (x .answer))
+      go false =
+          let x = writeNumberOf (numberAt gs 0) (numberAt gs 1) (numberAt gs 2) (octetsAt gs 3) (lent (numberAt gs 4)) in
+          omega (arith, written-fits 1024 (x .left) (omega (arith, lent-length (numberAt gs 4), done-length (lent (numberAt gs 4)) (numberOctets (numberAt gs 0) (numberAt gs 1) (numberAt gs 2) (octetsAt gs 3)))) (x .answer))
+
+module _ (T : Tables) (k : length (T .states) ≤ 4096) where
+  -- those of the tables
+  table-fits : (which : ℕ) (gs : List FieldSays) → length (tableTurn T which gs .line) ≤ 40000
+  unfolding tableTurn
+  table-fits which gs = go (eqb which OWN) (eqb which SET)
+    where
+      go : (a b : Bool) → length ((if a then turn (tables (T .states) (spread (T .owners) (numberAt gs 0) (numberAt gs 1) (octetAt gs 2))) (said "ok") else if b then turn (tables (spread (T .states) (numberAt gs 0) (numberAt gs 1) (octetAt gs 2)) (T .owners)) (said "ok") else turn T (rowsLine (T .states) (numberAt gs 0) (numberAt gs 1))) .line) ≤ 40000
+      go true b = omega arith
+      go false true = omega arith
+      go false false = omega (arith, rows-fit 4096 (T .states) k (numberAt gs 0) (numberAt gs 1))
+
+  -- the hub's
+  act-fits : (gs : List FieldSays) → length (actTurn T gs .line) ≤ 40000
+  unfolding actTurn
+  act-fits gs =
+      let a = actsOf T gs in
+      omega (arith, reply-fits 1024 (a .buffer) (omega (arith, lent-length (numberAt gs 2), buffer-length T (numberAt gs 0) (octetsAt gs 1) (lent (numberAt gs 2)))) (a .answer))
+
+  -- whatever is asked
+  asked-fits : (a : Asked) → Short a → length (turnFor T a .line) ≤ 40000
+  unfolding turnBy
+  asked-fits (asks which gs) h = go (ltb which NUMBER) (ltb which OWN) (ltb which ACT) (eqb which ACT)
+    where
+      go : (a b c d : Bool) → length ((if a then turn T (codecLine which gs)
+          else if b then turn T (numbersLine which gs)
+          else if c then tableTurn T which gs
+          else if d then actTurn T gs
+          else badTurn T) .line) ≤ 40000
+      go true b c d = codec-fits which gs h
+      go false true c d = numbers-fit which gs h
+      go false false true d = table-fits which gs
+      go false false false true = act-fits gs
+      go false false false false = omega arith
+  asked-fits nothing h = omega arith
+
+-- of every line
+pub answer-fits : (line : List ℕ) (T : Tables) → length (turnOf line T .line) ≤ 40000
 unfolding turnOf
-answer-fits line states owners = go (eqb (length states) 4096) (eqb (length owners) 4096) refl
+answer-fits line T = go (eqb (length (T .states)) 4096) (eqb (length (T .owners)) 4096) refl
   where
-    go : (s o : Bool) → eqb (length states) 4096 ≡ s → length ((if (if s then o else false) then turnFor line states owners (requestOf line) else turn states owners (refusal 16)) .line) ≤ 40000
-    go true true e = any-fits line states owners (omega (arith, eqb-true (length states) 4096 e)) (decLt 8192 (length line))
+    go : (s o : Bool) → eqb (length (T .states)) 4096 ≡ s → length ((if (if s then o else false) then turnFor T (askedOf line) else turn T (refusal 16)) .line) ≤ 40000
+    go true true e = asked-fits T (omega (arith, eqb-true (length (T .states)) 4096 e)) (askedOf line) (short line)
     go true false e = omega (arith, counted-length "refused " 16)
     go false true e = omega (arith, counted-length "refused " 16)
     go false false e = omega (arith, counted-length "refused " 16)
 
--- so a buffer of 65536 octets holds the whole line with its LF, at its front
-pub answer-whole : (line states owners buffer s o b : List ℕ) (n : ℕ) → length buffer ≡ 65536 → Answers line states owners buffer s o b n → take n b ≡ turnOf line states owners .line ++ (10 ∷ [])
-answer-whole line states owners buffer s o b n h e =
-    let t = turnOf line states owners .line in
-    let poured : sheet b n ≡ pour (sheet buffer 0) (t ++ (10 ∷ [])) = ap (λ (l : Left). l .sheet) e ∙ pour-one (pour (sheet buffer 0) t) 10 ∙ sym (pour-append (sheet buffer 0) t (10 ∷ [])) in
-    poured-front buffer (t ++ (10 ∷ [])) b n poured (omega (arith, answer-fits line states owners, length-append t (10 ∷ []))) .1
+-- so with 4096 octets of scratch a buffer of 65536 octets holds the whole line with its LF, at its front
+pub answer-whole : (scratch : ℕ) (line : List ℕ) (T : Tables) (buffer : List ℕ) (U : Tables) (b : List ℕ) (n : ℕ) → 4096 ≤ scratch → length buffer ≡ 65536 → AnswersLine scratch line T buffer U b n → (U ≡ turnOf line T .tables) × (take n b ≡ turnOf line T .line ++ (10 ∷ []))
+answer-whole scratch line T buffer U b n k h e =
+    let t = turnOf line T in
+    let same : turnIn scratch line T ≡ t = rw (le-ltb _ _ k) refl in
+    let e′ : left U (sheet b n) ≡ withLineEnd (leftBy t (sheet buffer 0)) = e ∙ ap (λ (x : Turn). withLineEnd (leftBy x (sheet buffer 0))) same in
+    let poured : sheet b n ≡ pour (sheet buffer 0) (t .line ++ (10 ∷ [])) = ap (λ (l : Left). l .sheet) e′ ∙ pour-one (pour (sheet buffer 0) (t .line)) 10 ∙ sym (pour-append (sheet buffer 0) (t .line) (10 ∷ [])) in
+    (ap (λ (l : Left). l .tables) e′, poured-front buffer (t .line ++ (10 ∷ [])) b n poured (omega (arith, answer-fits line T, length-append (t .line) (10 ∷ []))) .1)

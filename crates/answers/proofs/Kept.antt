@@ -1,75 +1,114 @@
 -- What a line leaves as it was.
-use Rattle.requests.specs.Forms.{octetsIn}
 use Prim.Native.Nat.{ℕ}
-use mathlib.Core.Path.{_≡_, refl, sym, _∙_, ap}
+use mathlib.Core.Path.{_≡_, refl, _∙_, ap}
 use mathlib.Core.Bool.{Bool, true, false}
 use mathlib.Core.List.{List}
+use borrow.Author.Tests.{eqb-true}
+use lib.Dec.{ltb, eqb}
 use Rattle.octets.specs.Answer.{refused}
 use Rattle.octets.specs.Choice.{if_then_else_}
-use Rattle.hub.specs.Acts.{sized, actOf}
+use Rattle.hub.specs.Tables.{Tables, tables, sized}
 use Rattle.hub.proofs.Called.{act-keeps}
 use Rattle.words.specs.Said.{said}
-use Rattle.requests.specs.declared.Field.{Field}
-use Rattle.requests.specs.declared.Request.{Request}
-use Rattle.requests.specs.declared.Request.the-variants.{Shape, Read, Write, Compact, Find, Number, Dial, Own, Set, Act, Rows, Bad}
-use Rattle.requests.specs.Requests.{requestOf}
-use Rattle.answers.specs.Lines.{refusal}
-use Rattle.answers.specs.Turns.{Turn, lent, turn, turnFor, turnOf}
+use Rattle.requests.specs.Kinds.{FieldSays}
+use Rattle.requests.specs.Rows.{NUMBER, OWN, SET, ACT}
+use Rattle.requests.specs.Words.{Asked, asks, nothing, askedOf, numberAt, octetAt, octetsAt}
+use Rattle.lines.specs.Lines.{refusal, lent}
+use Rattle.codec_lines.specs.Codec.{codecLine}
+use Rattle.number_lines.specs.Numbers.{numbersLine}
+use Rattle.table_lines.specs.Tables.{Turn, turn, spread, rowsLine, tableTurn, actsOf, actTurn}
+use Rattle.answers.specs.Turns.{badTurn, turnBy, turnFor, turnOf}
 
-module _ (line states owners : List ℕ) where
-  -- a line that is no request changes no table
-  pub bad-line-keeps : requestOf line ≡ Bad → (turnOf line states owners .states ≡ states) × (turnOf line states owners .owners ≡ owners)
-  unfolding turnOf turnFor
-  bad-line-keeps e = go (sized states owners)
+-- an `act` that the hub refuses
+abbrev pub Refused : Tables → List FieldSays → Type 0
+Refused T gs = (n at : ℕ) × (actsOf T gs .answer ≡ refused n at)
+
+module _ (T : Tables) (which : ℕ) (gs : List FieldSays) where
+  -- of the requests of the tables, the choice of a row
+  abbrev chosenTable : Bool → Bool → Turn
+  chosenTable o s =
+      if o then turn (tables (T .states) (spread (T .owners) (numberAt gs 0) (numberAt gs 1) (octetAt gs 2))) (said "ok")
+      else if s then turn (tables (spread (T .states) (numberAt gs 0) (numberAt gs 1) (octetAt gs 2)) (T .owners)) (said "ok")
+      else turn T (rowsLine (T .states) (numberAt gs 0) (numberAt gs 1))
+
+  -- only `own` changes who owns a circuit
+  table-owners : (which ≡ OWN → ⊥) → tableTurn T which gs .tables .owners ≡ T .owners
+  unfolding tableTurn
+  table-owners h = go (eqb which OWN) (eqb which SET) refl
     where
-      go : (t : Bool) → ((if t then turnFor line states owners (requestOf line) else turn states owners (refusal 16)) .states ≡ states) × ((if t then turnFor line states owners (requestOf line) else turn states owners (refusal 16)) .owners ≡ owners)
-      go true = (ap (λ (r : Request). turnFor line states owners r .states) e, ap (λ (r : Request). turnFor line states owners r .owners) e)
-      go false = (refl, refl)
+      go : (o s : Bool) → eqb which OWN ≡ o → chosenTable o s .tables .owners ≡ T .owners
+      go true s e = absurd (h (eqb-true which OWN e))
+      go false true e = refl
+      go false false e = refl
+
+  -- only `set` changes a row
+  table-states : (which ≡ SET → ⊥) → tableTurn T which gs .tables .states ≡ T .states
+  unfolding tableTurn
+  table-states h = go (eqb which OWN) (eqb which SET) refl
+    where
+      go : (o s : Bool) → eqb which SET ≡ s → chosenTable o s .tables .states ≡ T .states
+      go true s e = refl
+      go false true e = absurd (h (eqb-true which SET e))
+      go false false e = refl
+
+module _ (T : Tables) (which : ℕ) (gs : List FieldSays) where
+  -- the choice of a family
+  abbrev chosenFamily : Bool → Bool → Bool → Bool → Turn
+  chosenFamily a b c d =
+      if a then turn T (codecLine which gs)
+      else if b then turn T (numbersLine which gs)
+      else if c then tableTurn T which gs
+      else if d then actTurn T gs
+      else badTurn T
+
+  owners-by : (which ≡ OWN → ⊥) → turnBy T which gs .tables .owners ≡ T .owners
+  unfolding turnBy actTurn
+  owners-by h = go (ltb which NUMBER) (ltb which OWN) (ltb which ACT) (eqb which ACT)
+    where
+      go : (a b c d : Bool) → chosenFamily a b c d .tables .owners ≡ T .owners
+      go true b c d = refl
+      go false true c d = refl
+      go false false true d = table-owners T which gs h
+      go false false false true = refl
+      go false false false false = refl
+
+  states-by : (which ≡ SET → ⊥) → (which ≡ ACT → Refused T gs) → turnBy T which gs .tables .states ≡ T .states
+  unfolding turnBy actTurn
+  states-by h r = go (ltb which NUMBER) (ltb which OWN) (ltb which ACT) (eqb which ACT) refl
+    where
+      go : (a b c d : Bool) → eqb which ACT ≡ d → chosenFamily a b c d .tables .states ≡ T .states
+      go true b c d e = refl
+      go false true c d e = refl
+      go false false true d e = table-states T which gs h
+      go false false false true e = let f = r (eqb-true which ACT e) in act-keeps T (numberAt gs 0) (octetsAt gs 1) (lent (numberAt gs 2)) (f .0) (f .1) (f .2) .0
+      go false false false false e = refl
+
+module _ (line : List ℕ) (T : Tables) where
+  -- a line that is no request changes no table
+  pub bad-line-keeps : askedOf line ≡ nothing → turnOf line T .tables ≡ T
+  unfolding turnOf
+  bad-line-keeps e = go (sized T)
+    where
+      go : (t : Bool) → (if t then turnFor T (askedOf line) else turn T (refusal 16)) .tables ≡ T
+      go true = ap (λ (a : Asked). turnFor T a .tables) e
+      go false = refl
 
   -- who owns a circuit changes by `own` alone
-  owners-for : (r : Request) → ((first last sender : ℕ) → r ≡ Own first last sender → ⊥) → turnFor line states owners r .owners ≡ owners
-  unfolding turnFor
-  owners-for (Shape kind) h = refl
-  owners-for (Read message) h = refl
-  owners-for (Write circuit kind fixed first second optional room) h = refl
-  owners-for (Compact message room) h = refl
-  owners-for (Find name message defaults) h = refl
-  owners-for (Number contents room) h = refl
-  owners-for (Dial nature plan internal signals room) h = refl
-  owners-for (Own first last sender) h = absurd (h first last sender refl)
-  owners-for (Set first last state) h = refl
-  owners-for (Act sender message room) h = refl
-  owners-for (Rows first last) h = refl
-  owners-for Bad h = refl
-
-  pub owners-kept : ((first last sender : ℕ) → requestOf line ≡ Own first last sender → ⊥) → turnOf line states owners .owners ≡ owners
+  pub owners-kept : ((gs : List FieldSays) → askedOf line ≡ asks OWN gs → ⊥) → turnOf line T .tables .owners ≡ T .owners
   unfolding turnOf
-  owners-kept h = go (sized states owners) (owners-for (requestOf line) h)
+  owners-kept h = go (sized T) (askedOf line) refl
     where
-      go : (t : Bool) → turnFor line states owners (requestOf line) .owners ≡ owners → (if t then turnFor line states owners (requestOf line) else turn states owners (refusal 16)) .owners ≡ owners
-      go true e = e
-      go false e = refl
+      go : (t : Bool) (a : Asked) → askedOf line ≡ a → (if t then turnFor T a else turn T (refusal 16)) .tables .owners ≡ T .owners
+      go true (asks which gs) e = owners-by T which gs (λ w. h gs (e ∙ ap (λ (n : ℕ). asks n gs) w))
+      go true nothing e = refl
+      go false a e = refl
 
   -- a row changes by `set`, or by an `act` that the hub does not refuse
-  states-for : (r : Request) → ((first last state : ℕ) → r ≡ Set first last state → ⊥) → ((sender room : ℕ) (message : Field) → r ≡ Act sender message room → (n at : ℕ) × (actOf states owners sender (octetsIn line message) (lent room) .answer ≡ refused n at)) → turnFor line states owners r .states ≡ states
-  unfolding turnFor
-  states-for (Shape kind) h a = refl
-  states-for (Read message) h a = refl
-  states-for (Write circuit kind fixed first second optional room) h a = refl
-  states-for (Compact message room) h a = refl
-  states-for (Find name message defaults) h a = refl
-  states-for (Number contents room) h a = refl
-  states-for (Dial nature plan internal signals room) h a = refl
-  states-for (Own first last sender) h a = refl
-  states-for (Set first last state) h a = absurd (h first last state refl)
-  states-for (Act sender message room) h a = let r = a sender room message refl in act-keeps states owners sender (octetsIn line message) (lent room) (r .0) (r .1) (r .2) .0
-  states-for (Rows first last) h a = refl
-  states-for Bad h a = refl
-
-  pub states-kept : ((first last state : ℕ) → requestOf line ≡ Set first last state → ⊥) → ((sender room : ℕ) (message : Field) → requestOf line ≡ Act sender message room → (n at : ℕ) × (actOf states owners sender (octetsIn line message) (lent room) .answer ≡ refused n at)) → turnOf line states owners .states ≡ states
+  pub states-kept : ((gs : List FieldSays) → askedOf line ≡ asks SET gs → ⊥) → ((gs : List FieldSays) → askedOf line ≡ asks ACT gs → Refused T gs) → turnOf line T .tables .states ≡ T .states
   unfolding turnOf
-  states-kept h a = go (sized states owners) (states-for (requestOf line) h a)
+  states-kept h r = go (sized T) (askedOf line) refl
     where
-      go : (t : Bool) → turnFor line states owners (requestOf line) .states ≡ states → (if t then turnFor line states owners (requestOf line) else turn states owners (refusal 16)) .states ≡ states
-      go true e = e
-      go false e = refl
+      go : (t : Bool) (a : Asked) → askedOf line ≡ a → (if t then turnFor T a else turn T (refusal 16)) .tables .states ≡ T .states
+      go true (asks which gs) e = states-by T which gs (λ w. h gs (e ∙ ap (λ (n : ℕ). asks n gs) w)) (λ w. r gs (e ∙ ap (λ (n : ℕ). asks n gs) w))
+      go true nothing e = refl
+      go false a e = refl

@@ -1,6 +1,3 @@
-pub mod Stretches
-pub mod Pouring
-pub mod Octets
 pub mod Turned
 pub mod Determined
 pub mod Kept

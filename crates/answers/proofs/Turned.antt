@@ -1,29 +1,88 @@
--- What a turn leaves, piece by piece.
-use Prim.Native.Nat.{ℕ}
-use mathlib.Core.Path.{_≡_, refl, ap}
-use mathlib.Core.Bool.{false}
+-- What a turn leaves, family by family, and what a line asks.
+use Prim.Native.Nat.{ℕ, _≤_, _<_}
+use mathlib.Core.Path.{_≡_, refl, _∙_, ap}
+use mathlib.Core.Bool.{Bool, true, false}
 use mathlib.Core.List.{List}
-use borrow.Author.Tests.{eq-eqb, ne-eqb}
+use native.Mathlib.Omega.{arith}
+use borrow.Author.Tests.{lt-ltb, le-ltb, eq-eqb, ne-eqb, eqb-true}
+use lib.Dec.{eqb}
 use lib.ListN.{length}
-use Rattle.printing.specs.Sheet.{Sheet}
-use Rattle.hub.specs.Acts.{sized}
-use Rattle.requests.specs.Requests.{requestOf}
-use Rattle.answers.specs.Lines.{refusal}
-use Rattle.answers.specs.Turns.{Left, left, turn, turnFor, turnOf}
+use Rattle.octets.specs.Choice.{if_then_else_}
+use Rattle.hub.specs.Tables.{Tables}
+use Rattle.requests.specs.declared.Field.{Field}
+use Rattle.requests.specs.declared.Request.{Request}
+use Rattle.requests.specs.Kinds.{FieldSays}
+use Rattle.requests.specs.Words.{asks, nothing, askedOf}
+use Rattle.requests.specs.Along.{taken, requestOf, saidIn, saysOf}
+use Rattle.requests.proofs.Agree.{request-says}
+use Rattle.requests.proofs.Said.{number-at}
+use Rattle.lines.specs.Lines.{refusal}
+use Rattle.codec_lines.specs.Codec.{codecLine}
+use Rattle.number_lines.specs.Numbers.{numbersLine}
+use Rattle.table_lines.specs.Tables.{turn, tableTurn, actTurn}
+use Rattle.answers.specs.Turns.{badTurn, turnBy, turnFor, turnOf, turnIn}
 
-pub left-same : {s s′ o o′ : List ℕ} {x x′ : Sheet} → s ≡ s′ → o ≡ o′ → x ≡ x′ → left s o x ≡ left s′ o′ x′
-left-same p q r i = left (p i) (q i) (r i)
+module _ (T : Tables) (which : ℕ) (gs : List FieldSays) where
+  -- a row of each family
+  pub turn-codec : which < 5 → turn T (codecLine which gs) ≡ turnBy T which gs
+  unfolding turnBy
+  turn-codec h = rw (lt-ltb _ _ h) refl
 
--- tables of the right length, and others
-module _ (line states owners : List ℕ) where
-  pub turn-sized : length states ≡ 4096 → length owners ≡ 4096 → turnFor line states owners (requestOf line) ≡ turnOf line states owners
+  pub turn-numbers : 5 ≤ which → which < 7 → turn T (numbersLine which gs) ≡ turnBy T which gs
+  unfolding turnBy
+  turn-numbers l h = rw (le-ltb _ _ l, lt-ltb _ _ h) refl
+
+  pub turn-tables : 7 ≤ which → which < 10 → tableTurn T which gs ≡ turnBy T which gs
+  unfolding turnBy
+  turn-tables l h = let m : 5 ≤ which = omega arith in rw (le-ltb _ _ m, le-ltb _ _ l, lt-ltb _ _ h) refl
+
+  pub turn-hub : which ≡ 10 → actTurn T gs ≡ turnBy T which gs
+  unfolding turnBy
+  turn-hub e = rw e refl
+
+  pub turn-none : 10 ≤ which → (which ≡ 10 → ⊥) → badTurn T ≡ turnBy T which gs
+  unfolding turnBy
+  turn-none l n =
+      let m : 5 ≤ which = omega arith in
+      let k : 7 ≤ which = omega arith in
+      rw (le-ltb _ _ m, le-ltb _ _ k, le-ltb _ _ l, ne-eqb _ _ n) refl
+
+-- the requests of the tables have no octets
+pub table-any : (T : Tables) (which : ℕ) (s t : List ℕ) (fs : List Field) → tableTurn T which (saidIn s fs) ≡ tableTurn T which (saidIn t fs)
+unfolding tableTurn
+table-any T which s t fs = rw (number-at s fs 0, number-at s fs 1, number-at s fs 2, number-at t fs 0, number-at t fs 1, number-at t fs 2) refl
+
+-- by the row alone
+says-turn : (T : Tables) (r : Request) (s : List ℕ) → turnBy T (r .which) (saidIn s (r .fields)) ≡ turnFor T (saysOf (taken r s))
+unfolding turnBy
+says-turn T r s = go (eqb (r .which) 255) refl
+  where
+    none : r .which ≡ 255 → turnBy T (r .which) (saidIn s (r .fields)) ≡ badTurn T
+    none e = rw e refl
+
+    go : (t : Bool) → eqb (r .which) 255 ≡ t → turnBy T (r .which) (saidIn s (r .fields)) ≡ turnFor T (if t then nothing else asks (r .which) (saidIn s (r .fields)))
+    go true e = none (eqb-true (r .which) 255 e)
+    go false e = refl
+
+module _ (line scratch rest : List ℕ) (r : Request) (e : taken r rest ≡ requestOf line scratch) (h : 4096 ≤ length scratch) where
+  -- the request that was read asks what the line asks
+  asked-same : saysOf (taken r rest) ≡ askedOf line
+  asked-same = ap saysOf e ∙ request-says line scratch h
+
+  -- so its turn is the line's
+  pub turn-asked : (T : Tables) → length (T .states) ≡ 4096 → length (T .owners) ≡ 4096 → turnBy T (r .which) (saidIn rest (r .fields)) ≡ turnIn (length scratch) line T
   unfolding turnOf
-  turn-sized p q = rw (eq-eqb _ _ p, eq-eqb _ _ q) refl
+  turn-asked T p q = rw (le-ltb _ _ h, eq-eqb _ _ p, eq-eqb _ _ q) (says-turn T r rest ∙ ap (turnFor T) asked-same)
 
-  pub turn-states : (length states ≡ 4096 → ⊥) → turn states owners (refusal 16) ≡ turnOf line states owners
-  unfolding turnOf
-  turn-states p = rw (ne-eqb _ _ p) refl
+-- where a table or the scratch is too short
+module _ (line : List ℕ) (n : ℕ) (T : Tables) where
+  pub turn-scratch : n < 4096 → badTurn T ≡ turnIn n line T
+  turn-scratch h = rw (lt-ltb _ _ h) refl
 
-  pub turn-owners : length states ≡ 4096 → (length owners ≡ 4096 → ⊥) → turn states owners (refusal 16) ≡ turnOf line states owners
+  pub turn-states : 4096 ≤ n → (length (T .states) ≡ 4096 → ⊥) → turn T (refusal 16) ≡ turnIn n line T
   unfolding turnOf
-  turn-owners p q = rw (eq-eqb _ _ p, ne-eqb _ _ q) refl
+  turn-states h p = rw (le-ltb _ _ h, ne-eqb _ _ p) refl
+
+  pub turn-owners : 4096 ≤ n → length (T .states) ≡ 4096 → (length (T .owners) ≡ 4096 → ⊥) → turn T (refusal 16) ≡ turnIn n line T
+  unfolding turnOf
+  turn-owners h p q = rw (le-ltb _ _ h, eq-eqb _ _ p, ne-eqb _ _ q) refl

@@ -1,32 +1,30 @@
 -- What a call leaves: a refusal keeps all, and an accepted call changes the named rows and fills the buffer's front.
-use Prim.Native.Nat.{ℕ, _+_, _-_, _≤_, _<_}
-use mathlib.Core.Path.{_≡_, refl, sym, _∙_, ap, subst}
-use mathlib.Core.Bool.{Bool, true, false}
+use Prim.Native.Nat.{ℕ, _+_, _≤_, _<_}
+use mathlib.Core.Path.{_≡_, refl, sym, _∙_, ap}
 use mathlib.Core.List.{List}
 use mathlib.Core.Logic.{_⊎_, inl, inr, ⊎-elim}
 use native.Mathlib.Omega.{arith}
 use native.Mathlib.Nat.{add-sub-cancel-left}
 use borrow.Author.Tests.{ltb-true, ltb-false}
 use lib.Dec.{ltb}
-use lib.ListN.{length, drop, length-append, length-drop}
+use lib.ListN.{length, length-append, length-drop}
 use Rattle.octets.specs.Octet.{octet}
-use Rattle.octets.specs.Choice.{if_then_else_}
-use Rattle.octets.specs.Answer.{Answer, accepted, refused, _then_, unplaced}
+use Rattle.octets.specs.Answer.{Answer, accepted, refused, unplaced}
 use Rattle.octets.specs.Filled.{filled}
 use Rattle.octets.proofs.Answer.{refused-accepted, accepted-same}
 use Rattle.octets.proofs.Choice.{decided}
-use Rattle.isup.specs.declared.Message.{Message}
-use Rattle.isup.specs.Read.{readOf}
-use Rattle.hub.specs.declared.Ask.{Ask}
-use Rattle.hub.specs.Asks.{markOf, askIn, askedIn, askOf}
+use Rattle.asks.specs.declared.Ask.{Ask}
+use Rattle.rows.specs.Rows.{rowOf}
+use Rattle.asks.specs.Asks.{markOf, askOf}
+use Rattle.asks.proofs.Reading.{ask-last}
+use Rattle.hub.specs.Tables.{Tables}
 use Rattle.hub.specs.Rights.{isMine}
-use Rattle.hub.specs.Rows.{rowOf, effect, rowsAfter}
+use Rattle.hub.specs.Rows.{effect, rowsAfter}
 use Rattle.hub.specs.Replies.{replyOf}
 use Rattle.hub.specs.Acts.{grantOf, After, carriedOut, actOf}
 use Rattle.hub.specs.Names.{Mine, Named, Names}
-use Rattle.hub.proofs.Spans.{length-applied, applied-below, applied-past, applied-in}
+use Rattle.octets.proofs.Applied.{length-applied, applied-below, applied-past, applied-in}
 use Rattle.hub.proofs.Given.{Allowed, granted}
-use Rattle.hub.proofs.Judged.{asked-is}
 use Rattle.hub.proofs.Meaning.{mine-is, found-none}
 
 -- ---- the rows after a message
@@ -44,7 +42,7 @@ module _ (m : List ℕ) (a : Ask) (states : List ℕ) where
   pub row-inside : (c : ℕ) → Named a c → a .circuit + a .range < length states → octet (rowsAfter m a states) c ≡ effect m a c (octet states c)
   row-inside c n h = applied-in (effect m a) (a .circuit) (a .range + 1) states c (n .0) (omega (arith, n .1)) (omega (arith, n .1))
 
-  pub row-named : (i : ℕ) → i ≤ a .range → a .circuit + a .range < length states → octet (rowsAfter m a states) (a .circuit + i) ≡ rowOf (a .kind) (a .block) (markOf m (a .status) i) (octet states (a .circuit + i))
+  pub row-named : (i : ℕ) → i ≤ a .range → a .circuit + a .range < length states → octet (rowsAfter m a states) (a .circuit + i) ≡ rowOf (a .act) (a .block) (markOf m (a .status) i) (octet states (a .circuit + i))
   row-named i l h = row-inside (a .circuit + i) (omega arith, omega arith) h ∙ rw add-sub-cancel-left
 
 -- a circuit is named or not
@@ -60,23 +58,23 @@ named-or a c =
     (decided (ltb c (a .circuit)))
 
 -- ---- a call
-module _ (states owners : List ℕ) (sender : ℕ) (m buffer : List ℕ) where
+module _ (T : Tables) (sender : ℕ) (m buffer : List ℕ) where
   -- what an accepted call leaves
   pub record Called (n : ℕ) (r : After) : Type 0 where
     pub ask : Ask
-    pub allowed : Allowed states owners sender m (length buffer) ask
+    pub allowed : Allowed T sender m (length buffer) ask
     pub count : n ≡ length (replyOf m ask)
-    pub rows : r .states ≡ rowsAfter m ask states
+    pub rows : r .states ≡ rowsAfter m ask (T .states)
     pub front : r .buffer ≡ filled (replyOf m ask) buffer
 
-  pub call-accepted : (n : ℕ) → actOf states owners sender m buffer .answer ≡ accepted n → Called n (actOf states owners sender m buffer)
+  pub call-accepted : (n : ℕ) → actOf T sender m buffer .answer ≡ accepted n → Called n (actOf T sender m buffer)
   unfolding actOf
-  call-accepted n e = go (grantOf states owners sender m (length buffer)) refl e
+  call-accepted n e = go (grantOf T sender m (length buffer)) refl e
     where
-      go : (g : Answer Ask) → grantOf states owners sender m (length buffer) ≡ g → carriedOut states m buffer (unplaced g) .answer ≡ accepted n → Called n (carriedOut states m buffer (unplaced g))
+      go : (g : Answer Ask) → grantOf T sender m (length buffer) ≡ g → carriedOut T m buffer (unplaced g) .answer ≡ accepted n → Called n (carriedOut T m buffer (unplaced g))
       go (accepted a) p h = record {
         ask = a;
-        allowed = granted states owners sender m (length buffer) a p;
+        allowed = granted T sender m (length buffer) a p;
         count = sym (accepted-same h);
         rows = refl;
         front = refl;
@@ -84,40 +82,39 @@ module _ (states owners : List ℕ) (sender : ℕ) (m buffer : List ℕ) where
       go (refused k at) p h = absurd (refused-accepted h)
 
   -- a refusal changes no row and no octet of the answer buffer
-  pub act-keeps : (n at : ℕ) → actOf states owners sender m buffer .answer ≡ refused n at → (actOf states owners sender m buffer .states ≡ states) × (actOf states owners sender m buffer .buffer ≡ buffer)
+  pub act-keeps : (n at : ℕ) → actOf T sender m buffer .answer ≡ refused n at → (actOf T sender m buffer .states ≡ T .states) × (actOf T sender m buffer .buffer ≡ buffer)
   unfolding actOf
-  act-keeps n at e = go (grantOf states owners sender m (length buffer)) e
+  act-keeps n at e = go (grantOf T sender m (length buffer)) e
     where
-      go : (g : Answer Ask) → carriedOut states m buffer (unplaced g) .answer ≡ refused n at → (carriedOut states m buffer (unplaced g) .states ≡ states) × (carriedOut states m buffer (unplaced g) .buffer ≡ buffer)
+      go : (g : Answer Ask) → carriedOut T m buffer (unplaced g) .answer ≡ refused n at → (carriedOut T m buffer (unplaced g) .states ≡ T .states) × (carriedOut T m buffer (unplaced g) .buffer ≡ buffer)
       go (accepted a) h = absurd (refused-accepted (sym h))
       go (refused k at) h = (refl, refl)
 
   -- an answer is one or the other
-  pub answer-or : ((n : ℕ) × (actOf states owners sender m buffer .answer ≡ accepted n)) ⊎ ((n : ℕ) × (actOf states owners sender m buffer .answer ≡ refused n 0))
+  pub answer-or : ((n : ℕ) × (actOf T sender m buffer .answer ≡ accepted n)) ⊎ ((n : ℕ) × (actOf T sender m buffer .answer ≡ refused n 0))
   unfolding actOf
-  answer-or = go (grantOf states owners sender m (length buffer))
+  answer-or = go (grantOf T sender m (length buffer))
     where
-      go : (g : Answer Ask) → ((n : ℕ) × (carriedOut states m buffer (unplaced g) .answer ≡ accepted n)) ⊎ ((n : ℕ) × (carriedOut states m buffer (unplaced g) .answer ≡ refused n 0))
+      go : (g : Answer Ask) → ((n : ℕ) × (carriedOut T m buffer (unplaced g) .answer ≡ accepted n)) ⊎ ((n : ℕ) × (carriedOut T m buffer (unplaced g) .answer ≡ refused n 0))
       go (accepted a) = inl (length (replyOf m a), refl)
       go (refused k at) = inr (k, refl)
 
   -- what was granted is what the message asks
-  pub asks-so : (a : Ask) → Allowed states owners sender m (length buffer) a → askOf m ≡ accepted a
-  unfolding askOf
-  asks-so a g = ap (λ z. z then askedIn m) (g .reads) ∙ g .asks
+  pub asks-so : (a : Ask) → Allowed T sender m (length buffer) a → askOf m ≡ accepted a
+  asks-so a g = g .asks
 
-  pub reaches : (a : Ask) → Allowed states owners sender m (length buffer) a → a .circuit + a .range ≤ 4095
-  reaches a g = asked-is m (g .message) a (g .asks) .1
+  pub reaches : (a : Ask) → Allowed T sender m (length buffer) a → a .circuit + a .range ≤ 4095
+  reaches a g = ask-last m a (g .asks)
 
   -- the tables and the buffer keep their length
-  pub states-length : length (actOf states owners sender m buffer .states) ≡ length states
+  pub states-length : length (actOf T sender m buffer .states) ≡ length (T .states)
   states-length =
       ⊎-elim
-      (λ e. let d = call-accepted (e .0) (e .1) in ap length (d .rows) ∙ length-rows m (d .ask) states)
+      (λ e. let d = call-accepted (e .0) (e .1) in ap length (d .rows) ∙ length-rows m (d .ask) (T .states))
       (λ e. ap length (act-keeps (e .0) 0 (e .1) .0))
       answer-or
 
-  pub buffer-length : length (actOf states owners sender m buffer .buffer) ≡ length buffer
+  pub buffer-length : length (actOf T sender m buffer .buffer) ≡ length buffer
   buffer-length =
       ⊎-elim
       (λ e.
@@ -127,34 +124,34 @@ module _ (states owners : List ℕ) (sender : ℕ) (m buffer : List ℕ) where
       answer-or
 
   -- a call changes no row that its message does not name
-  pub untouched : (c : ℕ) → (Names m c → ⊥) → octet (actOf states owners sender m buffer .states) c ≡ octet states c
+  pub untouched : (c : ℕ) → (Names m c → ⊥) → octet (actOf T sender m buffer .states) c ≡ octet (T .states) c
   untouched c out =
       ⊎-elim
       (λ e.
       let d = call-accepted (e .0) (e .1) in
       ap (λ (l : List ℕ). octet l c) (d .rows)
-      ∙ ⊎-elim (λ n. absurd (out (d .ask, asks-so (d .ask) (d .allowed), n))) (λ h. row-outside m (d .ask) states c h) (named-or (d .ask) c))
+      ∙ ⊎-elim (λ n. absurd (out (d .ask, asks-so (d .ask) (d .allowed), n))) (λ h. row-outside m (d .ask) (T .states) c h) (named-or (d .ask) c))
       (λ e. ap (λ (l : List ℕ). octet l c) (act-keeps (e .0) 0 (e .1) .0))
       answer-or
 
   -- an accepted call names the sender's circuits alone
-  pub names-mine : (a : Ask) → Allowed states owners sender m (length buffer) a → (c : ℕ) → Named a c → Mine owners sender c
+  pub names-mine : (a : Ask) → Allowed T sender m (length buffer) a → (c : ℕ) → Named a c → Mine (T .owners) sender c
   names-mine a g c n =
-      mine-is owners sender c (found-none (isMine owners sender) (a .circuit) (a .range + 1) (g .mine) c (n .0) (omega (arith, n .1)))
+      mine-is (T .owners) sender c (found-none (isMine (T .owners) sender) (a .circuit) (a .range + 1) (g .mine) c (n .0) (omega (arith, n .1)))
 
   -- a row that is not the sender's stays: only rows that the sender owns change
-  pub only-mine : (c : ℕ) → (Mine owners sender c → ⊥) → octet (actOf states owners sender m buffer .states) c ≡ octet states c
+  pub only-mine : (c : ℕ) → (Mine (T .owners) sender c → ⊥) → octet (actOf T sender m buffer .states) c ≡ octet (T .states) c
   only-mine c out =
       ⊎-elim
       (λ e.
       let d = call-accepted (e .0) (e .1) in
       ap (λ (l : List ℕ). octet l c) (d .rows)
-      ∙ ⊎-elim (λ n. absurd (out (names-mine (d .ask) (d .allowed) c n))) (λ h. row-outside m (d .ask) states c h) (named-or (d .ask) c))
+      ∙ ⊎-elim (λ n. absurd (out (names-mine (d .ask) (d .allowed) c n))) (λ h. row-outside m (d .ask) (T .states) c h) (named-or (d .ask) c))
       (λ e. ap (λ (l : List ℕ). octet l c) (act-keeps (e .0) 0 (e .1) .0))
       answer-or
 
   -- only a sender who is not 0 is ever accepted, and none above 255 where the owners are octets
-  pub accepted-sender : (n : ℕ) → actOf states owners sender m buffer .answer ≡ accepted n → (sender ≡ 0 → ⊥) × (((c : ℕ) → octet owners c < 256) → sender < 256)
+  pub accepted-sender : (n : ℕ) → actOf T sender m buffer .answer ≡ accepted n → (sender ≡ 0 → ⊥) × (((c : ℕ) → octet (T .owners) c < 256) → sender < 256)
   accepted-sender n e =
       let d = call-accepted n e in
       let w = names-mine (d .ask) (d .allowed) (d .ask .circuit) (omega arith, omega arith) in

@@ -2,26 +2,20 @@
 use Prim.Native.Nat.{ℕ}
 use mathlib.Core.Path.{_≡_, sym, _∙_, ap}
 use mathlib.Core.List.{List}
-use Rattle.octets.proofs.Answer.{accepted-same, refused-same, refused-accepted}
-use Rattle.hub.specs.declared.Acted.{Acted}
-use Rattle.hub.specs.declared.Acted.the-variants.{Answered, Refused}
+use Rattle.octets.specs.declared.Written.{Written}
+use Rattle.octets.specs.Told.{writtenTold}
+use Rattle.octets.proofs.Told.{written-told-injective}
+use Rattle.hub.specs.Tables.{Tables}
 use Rattle.hub.specs.Acts.{After, after, actOf}
-use Rattle.hub.specs.Told.{actedTold}
 
--- each case of the answer says something else
-pub acted-told-injective : (r s : Acted) → actedTold r ≡ actedTold s → r ≡ s
-acted-told-injective (Answered n) (Answered k) e = ap Answered (accepted-same e)
-acted-told-injective (Answered n) (Refused k) e = absurd (refused-accepted (sym e))
-acted-told-injective (Refused n) (Answered k) e = absurd (refused-accepted e)
-acted-told-injective (Refused n) (Refused k) e = ap Refused (refused-same e .0)
-
-pub act-determined : (states owners : List ℕ) (sender : ℕ) (m buffer : List ℕ) (r s : Acted) (states₁ states₂ buffer₁ buffer₂ : List ℕ)
-    → after (actedTold r) states₁ buffer₁ ≡ actOf states owners sender m buffer
-    → after (actedTold s) states₂ buffer₂ ≡ actOf states owners sender m buffer
+-- of one call, for any tables, sender, message and buffer
+pub act-determined : (T : Tables) (sender : ℕ) (m buffer : List ℕ) (r s : Written) (states₁ states₂ buffer₁ buffer₂ : List ℕ)
+    → after (writtenTold r) states₁ buffer₁ ≡ actOf T sender m buffer
+    → after (writtenTold s) states₂ buffer₂ ≡ actOf T sender m buffer
     → (r ≡ s) × (states₁ ≡ states₂) × (buffer₁ ≡ buffer₂)
-act-determined states owners sender m buffer r s states₁ states₂ buffer₁ buffer₂ p q =
+act-determined T sender m buffer r s states₁ states₂ buffer₁ buffer₂ p q =
     let e = p ∙ sym q in (
-      acted-told-injective r s (ap (λ (x : After). x .answer) e),
+      written-told-injective r s (ap (λ (x : After). x .answer) e),
       ap (λ (x : After). x .states) e,
       ap (λ (x : After). x .buffer) e,
     )

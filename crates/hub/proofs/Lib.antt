@@ -1,7 +1,5 @@
 pub mod Searches
-pub mod Spans
 pub mod Writing
-pub mod Reading
 pub mod Given
 pub mod Meaning
 pub mod Judged
@@ -14,3 +12,4 @@ pub mod Rules
 pub mod ReadBack
 pub mod Refutations
 pub mod Orders
+pub mod OneBuffer

@@ -1,8 +1,8 @@
--- What the tests mean: one of a list, legal, the sender's, and the first circuit of a search.
+-- What the tests mean: the sender's, and the first circuit of a search.
 use Prim.Native.Nat.{ℕ, zero, suc, _+_, _≤_, _<_}
-use mathlib.Core.Path.{_≡_, refl, sym, _∙_, ap, subst}
+use mathlib.Core.Path.{_≡_, refl, ap, subst}
 use mathlib.Core.Bool.{Bool, true, false}
-use mathlib.Core.List.{List, [], _∷_}
+use mathlib.Core.List.{List}
 use mathlib.Core.Logic.{_⊎_, inl, inr, ⊎-elim, _↔_}
 use native.Mathlib.Omega.{arith}
 use native.Mathlib.Nat.{eq-or-lt-of-le}
@@ -10,45 +10,11 @@ use borrow.Author.Tests.{eqb-true, eqb-false, ltb-true, ltb-false}
 use lib.Dec.{eqb, ltb}
 use Rattle.octets.specs.Octet.{octet}
 use Rattle.octets.specs.Choice.{if_then_else_}
-use Rattle.octets.proofs.Choice.{decided}
+use Rattle.octets.proofs.Choice.{decided, true-false}
 use Rattle.hub.specs.declared.Search.{Search}
 use Rattle.hub.specs.declared.Search.the-variants.{At, Nowhere}
-use Rattle.hub.specs.Types.{among, legalRows}
-use Rattle.hub.specs.Rights.{isMine, isLegal, firstNot, firstForeign, isFound, IsFirst}
-use Rattle.hub.specs.Names.{OneOf, Legal, Mine}
-
-pub true-false : {t : Bool} → t ≡ true → t ≡ false → ⊥
-true-false p q = let z : _≡_ {A = ℕ} 0 1 = cc in omega arith
-
--- ---- one of a list
-one-front : (t x : ℕ) (xs : List ℕ) (b : Bool) → eqb t x ≡ b → (among t xs ≡ true → OneOf t xs) → (if b then true else among t xs) ≡ true → (t ≡ x) ⊎ OneOf t xs
-one-front t x xs true p r h = inl (eqb-true t x p)
-one-front t x xs false p r h = inr (r h)
-
-pub among-one : (t : ℕ) (l : List ℕ) → among t l ≡ true → OneOf t l
-among-one t [] e = true-false {t = false} e refl
-among-one t (x ∷ xs) e = one-front t x xs (eqb t x) refl (λ h. among-one t xs h) e
-
-among-front : (t x : ℕ) (xs : List ℕ) (b : Bool) → eqb t x ≡ b → (OneOf t xs → among t xs ≡ true) → (t ≡ x) ⊎ OneOf t xs → (if b then true else among t xs) ≡ true
-among-front t x xs true p r o = refl
-among-front t x xs false p r o = ⊎-elim (λ e. absurd (eqb-false t x p e)) r o
-
-pub one-among : (t : ℕ) (l : List ℕ) → OneOf t l → among t l ≡ true
-one-among t [] o = absurd o
-one-among t (x ∷ xs) o = among-front t x xs (eqb t x) refl (λ h. one-among t xs h) o
-
-pub legal-is : (row : ℕ) → isLegal row ≡ true → Legal row
-unfolding isLegal
-legal-is row e = among-one row legalRows e
-
-pub is-legal : (row : ℕ) → Legal row → isLegal row ≡ true
-unfolding isLegal
-is-legal row h = one-among row legalRows h
-
--- what holds of each legal row
-pub by-legal : (P : ℕ → Type 0) → P 0 → P 1 → P 2 → P 3 → P 4 → P 6 → (row : ℕ) → Legal row → P row
-by-legal P a b c d e f row h =
-    ⊎-elim (λ q. rw q a) (⊎-elim (λ q. rw q b) (⊎-elim (λ q. rw q c) (⊎-elim (λ q. rw q d) (⊎-elim (λ q. rw q e) (⊎-elim (λ q. rw q f) (λ n. absurd n)))))) h
+use Rattle.hub.specs.Rights.{isMine, firstNot, firstForeign, isFound, IsFirst}
+use Rattle.hub.specs.Names.{Mine}
 
 -- ---- the sender's
 pub mine-is : (owners : List ℕ) (sender circuit : ℕ) → isMine owners sender circuit ≡ true → Mine owners sender circuit

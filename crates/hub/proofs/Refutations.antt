@@ -4,33 +4,41 @@ use mathlib.Core.Path.{_≡_, refl, sym, _∙_, ap}
 use mathlib.Core.Bool.{Bool, true, false}
 use mathlib.Core.List.{List, [], _∷_}
 use native.Mathlib.Omega.{arith}
+use borrow.Author.Tests.{eqb-true, eq-eqb}
 use lib.Dec.{ltb, eqb}
-use lib.ListN.{length, getD, replicate, length-replicate}
+use lib.ListN.{length, replicate, length-replicate, getD-replicate}
 use Rattle.octets.specs.Octet.{octet}
 use Rattle.octets.specs.Choice.{if_then_else_}
 use Rattle.octets.specs.Answer.{Answer, accepted, refused, _then_, unplaced}
 use Rattle.octets.proofs.Answer.{refused-same}
-use Rattle.layout.specs.Run.{span}
-use Rattle.layout.specs.Container.{variableSlot, optionalSlot, sharesOf, judged, held, containerOf, partsOf}
+use Rattle.layout.specs.Container.{variableAt, optionalAt, variableSlot, optionalSlot, sharesOf, judged, held, containerOf, partsOf}
 use Rattle.isup.specs.Table.{shapeOf}
 use Rattle.isup.specs.Read.{readOf}
-use Rattle.hub.specs.declared.Ask.{Ask}
-use Rattle.hub.specs.Types.{IAM, BLO}
-use Rattle.hub.specs.Asks.{oneAsk, askedIn, askOf, bitAt, markOf}
-use Rattle.hub.specs.Rights.{isLegal, firstNot, firstForeign, firstIllegal, isFound}
-use Rattle.hub.specs.Applied.{applied}
-use Rattle.hub.specs.Rows.{blockedRow, changedRow, rowsAfter}
-use Rattle.hub.specs.Replies.{replyType, replyRest, replyOf}
+use Rattle.asks.specs.declared.Ask.{Ask}
+use Rattle.rows.specs.declared.Act.the-variants.{Seize, Block}
+use Rattle.rows.specs.Rows.{isLegal, blockedRow, changedRow}
+use Rattle.isup.specs.Types.{IAM, BLO}
+use Rattle.asks.specs.Types.{actFor}
+use Rattle.asks.specs.Asks.{oneAsk, askedIn, askOf, markOf}
+use Rattle.arrival.specs.Calls.{Calls, Apart, Merged, answersOf, callsOf}
+use Rattle.arrival.proofs.Isolation.{merged-so}
+use Rattle.hub.specs.Tables.{Tables, tables, sized}
+use Rattle.hub.specs.Rights.{firstNot, firstForeign, firstIllegal, isFound}
+use Rattle.octets.specs.Applied.{applied}
+use Rattle.hub.specs.Rows.{rowsAfter}
+use Rattle.hub.specs.Replies.{replyOf}
+use Rattle.hub.specs.Arrival.{Call, Reply, holdsOf}
 use Rattle.hub.specs.Acts.{isTaken, allowedOf, grantOf, After, after, carriedOut, actOf}
 use Rattle.hub.proofs.Given.{grant-sized}
 use Rattle.hub.proofs.Called.{act-keeps}
+use Rattle.hub.proofs.Orders.{holds-is}
 
 -- BLO for circuit 0
 abbrev block : List ℕ
 block = 0 ∷ 0 ∷ BLO ∷ []
 
-block-asks : askOf block ≡ accepted (oneAsk BLO 0)
-unfolding askOf askedIn readOf partsOf containerOf variableSlot optionalSlot judged sharesOf shapeOf held
+block-asks : askOf block ≡ accepted (oneAsk Block 0)
+unfolding askOf askedIn actFor readOf partsOf containerOf variableSlot optionalSlot judged sharesOf shapeOf held
 block-asks = refl
 
 -- every row 0, but for the first
@@ -41,6 +49,10 @@ rows first = first ∷ replicate 4095 0
 abbrev owned : ℕ → List ℕ
 owned sender = sender ∷ replicate 4095 sender
 
+-- such tables
+abbrev lent : ℕ → ℕ → Tables
+lent first sender = tables (rows first) (owned sender)
+
 rows-sized : (first : ℕ) → length (rows first) ≡ 4096
 rows-sized first = ap suc (length-replicate {A = ℕ} 4095 0)
 
@@ -48,66 +60,162 @@ owned-sized : (sender : ℕ) → length (owned sender) ≡ 4096
 owned-sized sender = ap suc (length-replicate {A = ℕ} 4095 sender)
 
 -- ---- rows marked before 13 is decided: the rows change, and then the buffer is found too short
-abbrev markedFirst : List ℕ → List ℕ → ℕ → List ℕ → List ℕ → Answer Ask → After
-markedFirst states owners sender m buffer (refused n at) = after (refused n 0) states buffer
-markedFirst states owners sender m buffer (accepted a) =
-    if ltb (length buffer) (length (replyOf m a)) then after (refused 13 0) (rowsAfter m a states) buffer
-    else carriedOut states m buffer (accepted a)
+abbrev markedFirst : Tables → ℕ → List ℕ → List ℕ → Answer Ask → After
+markedFirst T sender m buffer (refused n at) = after (refused n 0) (T .states) buffer
+markedFirst T sender m buffer (accepted a) =
+    if ltb (length buffer) (length (replyOf m a)) then after (refused 13 0) (rowsAfter m a (T .states)) buffer
+    else carriedOut T m buffer (accepted a)
 
-block-granted : grantOf (rows 0) (owned 1) 1 block 268 ≡ accepted (oneAsk BLO 0)
-unfolding allowedOf firstNot isLegal replyOf replyRest
+block-granted : grantOf (lent 0 1) 1 block 268 ≡ accepted (oneAsk Block 0)
+unfolding allowedOf firstNot isLegal replyOf
 block-granted =
-    grant-sized (rows 0) (owned 1) 1 block 268 (rows-sized 0) (owned-sized 1)
-    ∙ ap (λ z. z then allowedOf (rows 0) (owned 1) 1 block 268) block-asks
+    grant-sized (lent 0 1) 1 block 268 (rows-sized 0) (owned-sized 1)
+    ∙ ap (λ z. z then allowedOf (lent 0 1) 1 block 268) block-asks
 
 -- sender 1 owns every circuit, every row is 0, and the buffer is empty: the wrong order leaves circuit 0 blocked, and 13 keeps every row
-pub marked-before-13 : markedFirst (rows 0) (owned 1) 1 block [] (grantOf (rows 0) (owned 1) 1 block 268) ≡ actOf (rows 0) (owned 1) 1 block [] → ⊥
-unfolding applied changedRow blockedRow markOf replyOf replyRest
+pub marked-before-13 : markedFirst (lent 0 1) 1 block [] (grantOf (lent 0 1) 1 block 268) ≡ actOf (lent 0 1) 1 block [] → ⊥
+unfolding applied changedRow blockedRow markOf replyOf
 marked-before-13 e =
-    let w : after (refused 13 0) (rowsAfter block (oneAsk BLO 0) (rows 0)) [] ≡ actOf (rows 0) (owned 1) 1 block [] = ap (markedFirst (rows 0) (owned 1) 1 block []) (sym block-granted) ∙ e in
-    let k = act-keeps (rows 0) (owned 1) 1 block [] 13 0 (sym (ap (λ (r : After). r .answer) w)) .0 in
+    let w : after (refused 13 0) (rowsAfter block (oneAsk Block 0) (rows 0)) [] ≡ actOf (lent 0 1) 1 block [] = ap (markedFirst (lent 0 1) 1 block []) (sym block-granted) ∙ e in
+    let k = act-keeps (lent 0 1) 1 block [] 13 0 (sym (ap (λ (r : After). r .answer) w)) .0 in
     let z : _≡_ {A = ℕ} 2 0 = ap (λ (l : List ℕ). octet l 0) (ap (λ (r : After). r .states) w ∙ k) in
     omega arith
 
+-- ---- a hub that acknowledges and touches nothing: BLO for circuit 0 leaves its row blocked, and not as it was
+pub touches-nothing-refuted : rowsAfter block (oneAsk Block 0) (rows 0) ≡ rows 0 → ⊥
+unfolding applied changedRow blockedRow markOf
+touches-nothing-refuted e =
+    let z : _≡_ {A = ℕ} 2 0 = ap (λ (l : List ℕ). octet l 0) e in
+    omega arith
+
 -- ---- 20 looked at before 19
-abbrev legalFirst : List ℕ → List ℕ → ℕ → List ℕ → ℕ → Ask → Answer Ask
-legalFirst states owners sender m room a =
-    if isFound (firstIllegal states (a .circuit) (a .range + 1)) then refused 20 0
-    else (if isFound (firstForeign owners sender (a .circuit) (a .range + 1)) then refused 19 0
-    else (if isTaken states (a .kind) (a .circuit) then refused 21 0
-    else (if ltb room (length (replyOf m a)) then refused 13 0
-    else accepted a)))
+abbrev legalFirst : Tables → ℕ → List ℕ → ℕ → Ask → Answer Ask
+legalFirst T sender m room a =
+    if isFound (firstIllegal (T .states) (a .circuit) (a .range + 1)) then refused 20 0
+    else if isFound (firstForeign (T .owners) sender (a .circuit) (a .range + 1)) then refused 19 0
+    else if isTaken (T .states) (a .act) (a .circuit) then refused 21 0
+    else if ltb room (length (replyOf m a)) then refused 13 0
+    else accepted a
 
 -- a stranger's row is not legal: the wrong order tells the sender so, and the definition gives 19
-pub illegal-before-foreign : (askOf block then legalFirst (rows 5) (owned 2) 1 block 268) ≡ grantOf (rows 5) (owned 2) 1 block 268 → ⊥
+pub illegal-before-foreign : (askOf block then legalFirst (lent 5 2) 1 block 268) ≡ grantOf (lent 5 2) 1 block 268 → ⊥
 unfolding allowedOf firstNot isLegal
 illegal-before-foreign e =
     let r : refused 20 0 ≡ refused 19 0 =
-    ap (λ z. z then legalFirst (rows 5) (owned 2) 1 block 268) (sym block-asks)
+    ap (λ z. z then legalFirst (lent 5 2) 1 block 268) (sym block-asks)
     ∙ e
-    ∙ grant-sized (rows 5) (owned 2) 1 block 268 (rows-sized 5) (owned-sized 2)
-    ∙ ap (λ z. z then allowedOf (rows 5) (owned 2) 1 block 268) block-asks in
+    ∙ grant-sized (lent 5 2) 1 block 268 (rows-sized 5) (owned-sized 2)
+    ∙ ap (λ z. z then allowedOf (lent 5 2) 1 block 268) block-asks in
     let z : _≡_ {A = ℕ} 20 19 = refused-same {A = Ask} r .0 in
     omega arith
 
--- ---- status octet 1 marks the first of eight circuits, and not the last
-pub low-bit-first : (bitAt (1 ∷ []) 0 0 ≡ true) × (bitAt (1 ∷ []) 0 7 ≡ false)
-unfolding bitAt
-low-bit-first = (refl, refl)
+-- ---- hubs that look at a stranger's row before they refuse
+-- the hub's calls with another test of what is allowed
+abbrev grantBy : (Tables → ℕ → List ℕ → ℕ → Ask → Answer Ask) → Tables → ℕ → List ℕ → ℕ → Answer Ask
+grantBy allowed T sender m room = if sized T then (askOf m then allowed T sender m room) else refused 16 0
 
--- ---- a refusal that looks at a stranger's row
--- 20 looked at before 19: sender 1, who owns nothing, is told whether a stranger's row is legal. So the call does not depend on its own zone alone, and `Apart` has no proof for such a hub
-pub sees-a-stranger : (legalFirst (rows 0) (owned 2) 1 block 268 (oneAsk BLO 0) ≡ refused 19 0) × (legalFirst (rows 5) (owned 2) 1 block 268 (oneAsk BLO 0) ≡ refused 20 0)
+abbrev actBy : (Tables → ℕ → List ℕ → ℕ → Ask → Answer Ask) → Tables → ℕ → List ℕ → List ℕ → After
+actBy allowed T sender m buffer = carriedOut T m buffer (unplaced (grantBy allowed T sender m (length buffer)))
+
+abbrev hubBy : (Tables → ℕ → List ℕ → ℕ → Ask → Answer Ask) → List ℕ → Calls
+hubBy allowed owners =
+    record {
+      State = List ℕ;
+      Row = ℕ;
+      Call = Call;
+      Reply = Reply;
+      sizes = λ s. length s ∷ [];
+      row = λ s i. octet s i;
+      party = λ c. c .sender;
+      holds = holdsOf owners;
+      answer = λ c s. (let r = actBy allowed (tables s owners) (c .sender) (c .message) (c .buffer) in record { answer = r .answer; buffer = r .buffer });
+      after = λ c s. actBy allowed (tables s owners) (c .sender) (c .message) (c .buffer) .states;
+    }
+
+-- what such a hub grants on tables of the right length
+granted-by : (allowed : Tables → ℕ → List ℕ → ℕ → Ask → Answer Ask) (T : Tables) (sender : ℕ) (m : List ℕ) (room : ℕ) (a : Ask)
+    → length (T .states) ≡ 4096 → length (T .owners) ≡ 4096 → askOf m ≡ accepted a → grantBy allowed T sender m room ≡ allowed T sender m room a
+granted-by allowed T sender m room a p q e =
+    (rw (eq-eqb _ _ p, eq-eqb _ _ q) refl) ∙ ap (λ (r : Answer Ask). r then allowed T sender m room) e
+
+-- sender 1 holds no row where all are sender 2's
+holds-none : (i : ℕ) → holdsOf (owned 2) 1 i ≡ true → ⊥
+holds-none i e =
+    let w = holds-is (owned 2) 1 i e in
+    let z = sym (getD-replicate 4096 i 2 0 (omega (arith, w .0))) ∙ w .1 in
+    omega (arith, z)
+
+-- 20 looked at before 19: sender 1, who owns nothing, is told whether a stranger's row is legal. So what a call answers does not depend on its own rows alone
+pub sees-a-stranger : Apart (hubBy legalFirst (owned 2)) → ⊥
 unfolding firstNot isLegal
-sees-a-stranger = (refl, refl)
+sees-a-stranger A =
+    let c : Call = record { sender = 1; message = block; buffer = [] } in
+    let y = A .sees c (rows 0) (rows 5) (ap (λ (n : ℕ). n ∷ []) (rows-sized 0 ∙ sym (rows-sized 5)), λ i h. absurd (holds-none i h)) .0 in
+    let p = granted-by legalFirst (lent 0 2) 1 block 0 (oneAsk Block 0) (rows-sized 0) (owned-sized 2) block-asks in
+    let q = granted-by legalFirst (lent 5 2) 1 block 0 (oneAsk Block 0) (rows-sized 5) (owned-sized 2) block-asks in
+    let r : refused 19 0 ≡ refused 20 0 =
+    ap (λ (g : Answer Ask). carriedOut (lent 0 2) block [] (unplaced g) .answer) (sym p)
+    ∙ ap (λ (x : Reply). x .answer) y
+    ∙ ap (λ (g : Answer Ask). carriedOut (lent 5 2) block [] (unplaced g) .answer) q in
+    let z : _≡_ {A = ℕ} 19 20 = refused-same {A = ℕ} r .0 in
+    omega arith
 
--- 21 looked at before 19: the answer depends on the merge
-abbrev takenFirst : List ℕ → List ℕ → ℕ → List ℕ → ℕ → Ask → Answer Ask
-takenFirst states owners sender m room a =
-    if isTaken states (a .kind) (a .circuit) then refused 21 0
-    else allowedOf states owners sender m room a
+-- ---- 21 looked at before 19: the answer depends on the merge
+abbrev takenFirst : Tables → ℕ → List ℕ → ℕ → Ask → Answer Ask
+takenFirst T sender m room a =
+    if isTaken (T .states) (a .act) (a .circuit) then refused 21 0
+    else allowedOf T sender m room a
 
--- circuit 0 is sender 2's, and both send an IAM for it: sender 1 has 19 where its call comes first, and 21 where it comes after sender 2's
-pub depends-on-the-merge : (takenFirst (rows 0) (owned 2) 1 [] 0 (oneAsk IAM 0) ≡ refused 19 0) × (takenFirst (rowsAfter [] (oneAsk IAM 0) (rows 0)) (owned 2) 1 [] 0 (oneAsk IAM 0) ≡ refused 21 0)
-unfolding allowedOf firstNot isLegal applied changedRow markOf
-depends-on-the-merge = (refl, refl)
+-- IAM for circuit 0, with an empty called number and no optional part
+abbrev seize : List ℕ
+seize = 0 ∷ 0 ∷ IAM ∷ 0 ∷ 0 ∷ 0 ∷ 0 ∷ 0 ∷ 2 ∷ 0 ∷ 0 ∷ []
+
+seize-asks : askOf seize ≡ accepted (oneAsk Seize 0)
+unfolding askOf askedIn actFor readOf partsOf containerOf variableSlot variableAt optionalSlot optionalAt judged sharesOf shapeOf held
+seize-asks = refl
+
+-- both senders seize circuit 0, which is sender 2's
+abbrev seizedBy : ℕ → Call
+seizedBy sender = record { sender = sender; message = seize; buffer = [] }
+
+abbrev hurried : Calls
+hurried = hubBy takenFirst (owned 2)
+
+abbrev strangerFirst : List Call
+strangerFirst = seizedBy 1 ∷ seizedBy 2 ∷ []
+
+abbrev ownerFirst : List Call
+ownerFirst = seizedBy 2 ∷ seizedBy 1 ∷ []
+
+-- two merges of the same lists, in which sender 1 has different answers: 19 where its call comes first, and 21 where it comes after sender 2's
+pub depends-on-the-merge : (ls : ℕ → List Call) × Merged hurried strangerFirst ls × Merged hurried ownerFirst ls
+    × (answersOf hurried 1 strangerFirst (rows 0) ≡ answersOf hurried 1 ownerFirst (rows 0) → ⊥)
+unfolding callsOf answersOf allowedOf firstNot isLegal applied changedRow markOf replyOf
+depends-on-the-merge = (
+  (λ q. callsOf hurried q strangerFirst),
+  merged-so hurried strangerFirst _ (λ q. refl),
+  merged-so hurried ownerFirst _ (λ q. swapped q (eqb 1 q) (eqb 2 q) refl refl),
+  λ e.
+      let p = granted-by takenFirst (lent 0 2) 1 seize 0 (oneAsk Seize 0) (rows-sized 0) (owned-sized 2) seize-asks in
+      let o = granted-by takenFirst (lent 0 2) 2 seize 0 (oneAsk Seize 0) (rows-sized 0) (owned-sized 2) seize-asks in
+      let s : hurried .after (seizedBy 2) (rows 0) ≡ rows 1 = ap (λ (g : Answer Ask). carriedOut (lent 0 2) seize [] (unplaced g) .states) o in
+      let q = granted-by takenFirst (lent 1 2) 1 seize 0 (oneAsk Seize 0) (rows-sized 1) (owned-sized 2) seize-asks in
+      let h : hurried .answer (seizedBy 1) (rows 0) ≡ hurried .answer (seizedBy 1) (hurried .after (seizedBy 2) (rows 0)) = first-same e in
+      let r : refused 19 0 ≡ refused 21 0 =
+      ap (λ (g : Answer Ask). carriedOut (lent 0 2) seize [] (unplaced g) .answer) (sym p)
+      ∙ ap (λ (x : Reply). x .answer) (h ∙ ap (λ (l : List ℕ). hurried .answer (seizedBy 1) l) s)
+      ∙ ap (λ (g : Answer Ask). carriedOut (lent 1 2) seize [] (unplaced g) .answer) q in
+      let z : _≡_ {A = ℕ} 19 21 = refused-same {A = ℕ} r .0 in
+      omega arith,
+)
+  where
+    first-same : {a b : Reply} {l k : List Reply} → a ∷ l ≡ b ∷ k → a ≡ b
+    first-same e = cc
+
+    swapped : (q : ℕ) (b d : Bool) → eqb 1 q ≡ b → eqb 2 q ≡ d
+        → (if d then seizedBy 2 ∷ (if b then seizedBy 1 ∷ [] else []) else if b then seizedBy 1 ∷ [] else [])
+        ≡ (if b then seizedBy 1 ∷ (if d then seizedBy 2 ∷ [] else []) else if d then seizedBy 2 ∷ [] else [])
+    swapped q true true e f = let z : _≡_ {A = ℕ} 1 2 = eqb-true 1 q e ∙ sym (eqb-true 2 q f) in absurd (omega arith)
+    swapped q true false e f = refl
+    swapped q false true e f = refl
+    swapped q false false e f = refl

@@ -1,11 +1,9 @@
 -- One step of a search, as the proof of its loop cites it. Each count is an argument with an equation, which `omega` proves at a call.
 use Prim.Native.Nat.{ℕ, zero, suc, _+_, _<_}
-use mathlib.Core.Path.{_≡_, refl}
+use mathlib.Core.Path.{_≡_}
 use mathlib.Core.Bool.{Bool, true, false}
 use native.Mathlib.Omega.{arith}
 use native.Mathlib.Numerals.{add-one}
-use Rattle.octets.specs.Choice.{if_then_else_}
-use Rattle.hub.specs.declared.Search.{Search}
 use Rattle.hub.specs.declared.Search.the-variants.{At, Nowhere}
 use Rattle.hub.specs.Rights.{firstNot}
 

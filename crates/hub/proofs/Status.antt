@@ -1,20 +1,19 @@
 -- The status of an answer, once over its width: r/8+1 octets, the message's bits 0 to r, and spare bits 0.
-use Prim.Native.Nat.{ℕ, zero, suc, _+_, _-_, _*_, _/_, _%_, _^_, _≤_, _<_}
-use mathlib.Core.Path.{_≡_, refl, sym, _∙_, ap}
-use mathlib.Core.Bool.{Bool, true, false}
+use Prim.Native.Nat.{ℕ, zero, suc, _+_, _-_, _/_, _%_, _^_, _≤_, _<_}
+use mathlib.Core.Path.{_≡_, _∙_, ap}
+use mathlib.Core.Bool.{false}
 use mathlib.Core.List.{List}
 use mathlib.Core.Logic.{⊎-elim}
 use native.Mathlib.Omega.{arith}
 use native.Mathlib.Nat.{add-zero, zero-add, mod-lt, div-eq-of-lt, zero-div}
 use borrow.Author.Tests.{lt-ltb, le-ltb, ltb-true, ltb-false, ne-eqb}
 use lib.Dec.{ltb, eqb}
-use lib.ListN.{length, getD, List·getD-eq-default}
+use lib.ListN.{List·getD-eq-default}
 use lib.Pow.{pow-pos, pow-mono, field, mod-mod-pow}
 use Rattle.octets.specs.Octet.{octet}
-use Rattle.octets.specs.Choice.{if_then_else_}
 use Rattle.octets.proofs.Choice.{decided}
-use Rattle.hub.specs.declared.Ask.{Ask}
-use Rattle.hub.specs.Asks.{width, bitAt}
+use Rattle.asks.specs.declared.Ask.{Ask}
+use Rattle.asks.specs.Asks.{width, bitAt}
 use Rattle.hub.specs.Replies.{statusOctet, statusFrom}
 use Rattle.hub.specs.Rules.{Marks}
 use Rattle.hub.proofs.Writing.{length-status}

@@ -1,14 +1,9 @@
-pub mod Types
-pub mod Asks
+pub mod Tables
 pub mod Rights
 pub mod Rows
-pub mod Applied
 pub mod Replies
 pub mod Acts
-pub mod Told
 pub mod Names
 pub mod Faults
 pub mod Rules
-pub mod Merge
-pub mod Isolation
 pub mod Arrival

@@ -1,22 +1,11 @@
--- Which circuits a message names, and what it is for a circuit to be the sender's and for a row to be legal.
+-- Which circuits a message names, and what it is for a circuit to be the sender's.
 use Prim.Native.Nat.{ℕ, _+_, _≤_}
 use mathlib.Core.Path.{_≡_}
-use mathlib.Core.List.{List, [], _∷_}
-use mathlib.Core.Logic.{_⊎_}
+use mathlib.Core.List.{List}
 use Rattle.octets.specs.Octet.{octet}
 use Rattle.octets.specs.Answer.{accepted}
-use Rattle.hub.specs.declared.Ask.{Ask}
-use Rattle.hub.specs.Types.{legalRows}
-use Rattle.hub.specs.Asks.{askOf}
-
--- the number is one of the list
-abbrev pub OneOf : ℕ → List ℕ → Type 0
-OneOf t [] = ⊥
-OneOf t (x ∷ xs) = (t ≡ x) ⊎ OneOf t xs
-
--- legal: 0, 1, 2, 3, 4, 6
-abbrev pub Legal : ℕ → Type 0
-Legal row = OneOf row legalRows
+use Rattle.asks.specs.declared.Ask.{Ask}
+use Rattle.asks.specs.Asks.{askOf}
 
 -- the circuit is the sender's
 abbrev pub Mine : List ℕ → ℕ → ℕ → Type 0

@@ -6,17 +6,13 @@ use mathlib.Core.List.{List}
 use lib.Dec.{eqb}
 use Rattle.octets.specs.Octet.{octet}
 use Rattle.octets.specs.Choice.{if_then_else_}
+use Rattle.rows.specs.Rows.{isLegal}
 use Rattle.hub.specs.declared.Search.{Search}
 use Rattle.hub.specs.declared.Search.the-variants.{At, Nowhere}
-use Rattle.hub.specs.Types.{among, legalRows}
 
 -- whether the circuit is the sender's: its ownership octet is the sender, who is not 0
 abbrev pub isMine : List ℕ → ℕ → ℕ → Bool
 isMine owners sender circuit = if eqb sender 0 then false else eqb (octet owners circuit) sender
-
--- legal: 0, 1, 2, 3, 4, 6
-unfoldable pub isLegal : ℕ → Bool
-isLegal row = among row legalRows
 
 -- the first of the n circuits from `circuit` on that is not as it should be ends the search
 unfoldable pub firstNot : (ℕ → Bool) → ℕ → ℕ → Search

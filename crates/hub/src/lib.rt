@@ -1,56 +1,29 @@
 // The hub: eight types act on one shared table of circuits, and nobody's message touches what another owns.
 ghost use mathlib.Core.Path.{_≡_};
+ghost use mathlib.Core.List.{[]};
 ghost use mathlib.Core.Logic.{_⊎_};
-ghost use Prim.Native.Nat.{_+_, _*_, _/_, _%_, _≤_, _<_};
+ghost use Prim.Native.Nat.{_+_, _/_, _≤_, _<_};
 ghost use lib.ListN.{length};
 ghost use lib.Seq.{sets};
-ghost use Rattle.octets.specs.Octet.{octet};
-ghost use Rattle.octets.specs.Answer.{accepted};
-ghost use Rattle.isup.specs.Read.{readOf};
-ghost use Rattle.hub.specs.Asks.{Placed, Sound, looked, width, brokenReset, brokenGroup, resetAsk, groupAsk, oneOf, unbroken, askedIn, askOf, markOf};
-ghost use Rattle.hub.specs.Rights.{isMine, isLegal, isFound, firstForeign, firstIllegal};
-ghost use Rattle.hub.specs.Rows.{blockedRow, unblockedRow, changedRow, rowOf, rowsAfter};
-ghost use Rattle.hub.specs.Replies.{replyType, replyLength, statusOctet, rangeAndStatus, replyOf};
+ghost use Rattle.asks.specs.Asks.{Sound, width, markOf};
+ghost use Rattle.asks.specs.Told.{verdictTold};
+ghost use Rattle.hub.specs.Tables.{tables};
+ghost use Rattle.hub.specs.Rights.{isMine, isFound, firstForeign, firstIllegal};
+ghost use Rattle.hub.specs.Rows.{rowsAfter};
+ghost use Rattle.hub.specs.Replies.{headed, replyLength, statusOctet, rangeAndStatus, replyOf};
 ghost use Rattle.hub.specs.Acts.{isTaken, allowedOf, grantOf, after, actOf};
-ghost use Rattle.hub.specs.Told.{actedTold, verdictTold};
+ghost use Rattle.octets.specs.Told.{writtenTold};
+use asks::Ask;
+use asks::Verdict;
 use isup::BLA;
-use isup::BLO;
-use isup::CGB;
 use isup::CGBA;
-use isup::CGU;
 use isup::CGUA;
 use isup::GRA;
-use isup::GRS;
-use isup::IAM;
-use isup::Message;
-use isup::REL;
 use isup::RLC;
-use isup::RSC;
-use isup::Scanned;
 use isup::UBA;
-use isup::UBL;
-use layout::Span;
-
-// What the hub answers: how many answer octets there are, or the refusal's number.
-pub enum Acted {
-    Answered(usize),
-    Refused(u8),
-}
-
-// What a message asks: its type; the circuits, `circuit` and the `range` after it; the kind of block, 0 for maintenance and 1 for hardware; and the octet at which the status stands, 0 where each named circuit is marked.
-struct Ask {
-    kind: u8,
-    circuit: usize,
-    range: usize,
-    block: u8,
-    status: usize,
-}
-
-// What a message asks, or the refusal's number with the octet that it is about.
-enum Verdict {
-    Granted(Ask),
-    Refused(u8, usize),
-}
+use octets::Written;
+use rows::Act;
+use rows::CIRCUITS;
 
 // The first circuit that a search came upon, or none.
 enum Search {
@@ -88,21 +61,6 @@ fn first_foreign(owners: &[u8], sender: u32, first: usize, range: usize) -> Sear
     found
 }
 
-// Whether a row is one that the paper has.
-fn legal(row: u8) -> bool
-    ensures { λ r. ⌜ r ≡ isLegal row ⌝ }
-{
-    match row {
-        0 => true,
-        1 => true,
-        2 => true,
-        3 => true,
-        4 => true,
-        6 => true,
-        _ => false,
-    }
-}
-
 // The first circuit of a group whose row is not legal ends the search.
 fn first_illegal(states: &[u8], first: usize, range: usize) -> Search
     requires { ⌜ (length (now states) ≡ 4096) × (first + range ≤ 4095) ⌝ }
@@ -114,7 +72,7 @@ fn first_illegal(states: &[u8], first: usize, range: usize) -> Search
         if circuit > last {
             break Search::Nowhere;
         }
-        if !legal(states[circuit]) {
+        if !rows::legal(states[circuit]) {
             break Search::At(circuit);
         }
         circuit += 1;
@@ -132,115 +90,6 @@ fn found(search: Search) -> bool
     }
 }
 
-// What GRS asks: 14 unless its contents are exactly the range's octet and the range is 1 to 31, then 18.
-fn ask_reset(message: &[u8], circuit: usize, contents: Span) -> Verdict
-    requires { ⌜ (contents .from ≤ contents .to) × (contents .to ≤ length (now message)) × (circuit ≤ 4095) ⌝ }
-    ensures { λ r. ⌜ verdictTold r ≡ unbroken (brokenReset (now (message .entry)) contents) (resetAsk (now (message .entry)) circuit contents) ⌝ }
-{
-    let from = contents.from;
-    if contents.to - from != 1 {
-        return Verdict::Refused(14, 0);
-    }
-    let range = message[from] as usize;
-    if range == 0 {
-        return Verdict::Refused(14, 0);
-    }
-    if range > 31 {
-        return Verdict::Refused(14, 0);
-    }
-    if circuit + range > 4095 {
-        return Verdict::Refused(18, 0);
-    }
-    Verdict::Granted(Ask {
-        kind: GRS,
-        circuit,
-        range,
-        block: 0,
-        status: 0,
-    })
-}
-
-// What CGB or CGU asks: 14 unless the kind is 0 or 1, the range 1 to 255 and the status as wide as it says, then 18.
-fn ask_group(message: &[u8], kind: u8, circuit: usize, indicator: u8, contents: Span) -> Verdict
-    requires { ⌜ (contents .from ≤ contents .to) × (contents .to ≤ length (now message)) × (circuit ≤ 4095) ⌝ }
-    ensures { λ r. ⌜ verdictTold r ≡ unbroken (brokenGroup (now (message .entry)) indicator contents) (groupAsk (now (message .entry)) kind circuit indicator contents) ⌝ }
-{
-    let block = indicator % 4;
-    if block > 1 {
-        return Verdict::Refused(14, 0);
-    }
-    let from = contents.from;
-    let size = contents.to - from;
-    if size == 0 {
-        return Verdict::Refused(14, 0);
-    }
-    let range = message[from] as usize;
-    if range == 0 {
-        return Verdict::Refused(14, 0);
-    }
-    if size != 1 + (range / 8 + 1) {
-        return Verdict::Refused(14, 0);
-    }
-    if circuit + range > 4095 {
-        return Verdict::Refused(18, 0);
-    }
-    Verdict::Granted(Ask {
-        kind,
-        circuit,
-        range,
-        block,
-        status: from + 1,
-    })
-}
-
-// What a message that names one circuit asks; 17 for a type that the hub does not act on.
-fn ask_one(kind: u8, circuit: usize) -> Verdict
-    ensures { λ r. ⌜ verdictTold r ≡ oneOf kind circuit ⌝ }
-{
-    let one = Ask {
-        kind,
-        circuit,
-        range: 0,
-        block: 0,
-        status: 0,
-    };
-    match kind {
-        IAM => Verdict::Granted(one),
-        REL => Verdict::Granted(one),
-        RSC => Verdict::Granted(one),
-        BLO => Verdict::Granted(one),
-        UBL => Verdict::Granted(one),
-        _ => Verdict::Refused(17, 0),
-    }
-}
-
-// What a message that reads asks, by its type, circuit, where its fixed part starts and its first contents: 17 for a type that the hub does not act on, then 14, then 18.
-fn ask_in(message: &[u8], kind: u8, circuit: usize, at: usize, contents: Span) -> Verdict
-    requires { ⌜ Placed (now message) kind circuit at contents ⌝ }
-    ensures { λ r. ⌜ verdictTold r ≡ askedIn (now (message .entry)) (looked kind circuit at contents) ⌝ }
-{
-    match kind {
-        GRS => ask_reset(message, circuit, contents),
-        CGB => ask_group(message, CGB, circuit, message[at], contents),
-        CGU => ask_group(message, CGU, circuit, message[at], contents),
-        _ => ask_one(kind, circuit),
-    }
-}
-
-// What a message asks, from the message alone: the reader's numbers, 17, 14, 18.
-fn decode(message: &[u8]) -> Verdict
-    ensures { λ r. ⌜ verdictTold r ≡ askOf (now (message .entry)) ⌝ }
-{
-    match isup::scan(message) {
-        Scanned::Faulty(n, at) => Verdict::Refused(n, at),
-        Scanned::Whole(x) => {
-            let parts = x.parts;
-            let fixed = parts.fixed;
-            ask_in(message, x.kind, x.circuit as usize, fixed.from, parts.first)
-        }
-    }
-}
-
 // Whether circuit m+n is marked.
 fn marked(message: &[u8], status: usize, n: usize) -> bool
     requires { ⌜ (status ≡ 0) ⊎ (status + n / 8 < length (now message)) ⌝ }
@@ -254,86 +103,36 @@ fn marked(message: &[u8], status: usize, n: usize) -> bool
     (octet >> by) % 2 == 1
 }
 
-// A row with a block of that kind set; a block for hardware also ends busy.
-fn blocked(block: u8, row: u8) -> u8
-    ensures { λ r. ⌜ r ≡ blockedRow block row ⌝ }
-{
-    if block == 0 {
-        return row / 4 * 4 + 2 + row % 2;
-    }
-    (row / 8 * 8 + 4 + row % 4) / 2 * 2
-}
-
-// A row with a block of that kind cleared.
-fn unblocked(block: u8, row: u8) -> u8
-    ensures { λ r. ⌜ r ≡ unblockedRow block row ⌝ }
-{
-    if block == 0 {
-        return row / 4 * 4 + row % 2;
-    }
-    row / 8 * 8 + row % 4
-}
-
-// What the type makes of a marked circuit's row.
-fn changed(kind: u8, block: u8, row: u8) -> u8
-    ensures { λ r. ⌜ r ≡ changedRow kind block row ⌝ }
-{
-    match kind {
-        IAM => 1,
-        REL => row / 2 * 2,
-        RSC => 0,
-        GRS => 0,
-        BLO => blocked(block, row),
-        CGB => blocked(block, row),
-        UBL => unblocked(block, row),
-        CGU => unblocked(block, row),
-        _ => row,
-    }
-}
-
 // Carries out what was granted: each named row that is marked changes, and every other row stays.
 fn change_rows(states: &mut [u8], message: &[u8], ask: Ask)
     requires { ⌜ (length (now states) ≡ 4096) × Sound (now message) ask ⌝ }
     ensures { λ _. ⌜ now (states .exit) ≡ rowsAfter (now (message .entry)) ask (now (states .entry)) ⌝ }
 {
+    let act = ask.act;
     let mut i = 0;
     while i <= ask.range {
         let circuit = ask.circuit + i;
         if marked(message, ask.status, i) {
-            states[circuit] = changed(ask.kind, ask.block, states[circuit]);
+            states[circuit] = rows::changed(act, ask.block, states[circuit]);
         }
         i += 1;
     }
 }
 
-// The type that answers.
-fn reply_type(kind: u8) -> u8
-    ensures { λ r. ⌜ r ≡ replyType kind ⌝ }
-{
-    match kind {
-        REL => RLC,
-        RSC => RLC,
-        BLO => BLA,
-        UBL => UBA,
-        GRS => GRA,
-        CGB => CGBA,
-        _ => CGUA,
-    }
-}
-
 // How many octets the answer has.
-fn reply_length(kind: u8, range: usize) -> usize
+fn reply_length(act: Act, range: usize) -> usize
     requires { ⌜ range ≤ 255 ⌝ }
-    ensures { λ r. ⌜ r ≡ replyLength kind range ⌝ }
+    ensures { λ r. ⌜ r ≡ replyLength act range ⌝ }
 {
-    match kind {
-        IAM => 0,
-        REL => 4,
-        RSC => 4,
-        BLO => 3,
-        UBL => 3,
-        GRS => 6 + (range / 8 + 1),
-        _ => 7 + (range / 8 + 1),
+    match act {
+        Act::Seize => 0,
+        Act::Release => 4,
+        Act::Reset => 4,
+        Act::Block => 3,
+        Act::Unblock => 3,
+        Act::ResetGroup => 6 + (range / 8 + 1),
+        Act::BlockGroup => 7 + (range / 8 + 1),
+        Act::UnblockGroup => 7 + (range / 8 + 1),
     }
 }
 
@@ -370,25 +169,46 @@ fn write_status(message: &[u8], ask: Ask, answer: &mut [u8], at: usize)
     }
 }
 
+// Writes the circuit, low eight bits first, and the type to the front of `answer`.
+fn write_head(answer: &mut [u8], circuit: usize, kind: u8)
+    requires { ⌜ (circuit ≤ 4095) × (3 ≤ length (now answer)) ⌝ }
+    ensures { λ _. ⌜ now (answer .exit) ≡ sets (now (answer .entry)) 0 (headed circuit kind []) ⌝ }
+{
+    answer[0] = (circuit % 256) as u8;
+    answer[1] = (circuit / 256) as u8;
+    answer[2] = kind;
+}
+
 // Writes the answer's octets to the front of `answer`, and keeps the rest of it.
 fn write_reply(message: &[u8], ask: Ask, answer: &mut [u8])
-    requires { ⌜ Sound (now message) ask × (replyLength (ask .kind) (ask .range) ≤ length (now answer)) ⌝ }
+    requires { ⌜ Sound (now message) ask × (replyLength (ask .act) (ask .range) ≤ length (now answer)) ⌝ }
     ensures { λ _. ⌜ now (answer .exit) ≡ sets (now (answer .entry)) 0 (replyOf (now (message .entry)) ask) ⌝ }
 {
-    let kind = ask.kind;
-    if kind == IAM {
-        return;
-    }
-    answer[0] = (ask.circuit % 256) as u8;
-    answer[1] = (ask.circuit / 256) as u8;
-    answer[2] = reply_type(kind);
-    match kind {
-        REL => answer[3] = 0,
-        RSC => answer[3] = 0,
-        BLO => {}
-        UBL => {}
-        GRS => write_status(message, ask, answer, 3),
-        _ => {
+    let act = ask.act;
+    let circuit = ask.circuit;
+    match act {
+        Act::Seize => {}
+        Act::Release => {
+            write_head(answer, circuit, RLC);
+            answer[3] = 0;
+        }
+        Act::Reset => {
+            write_head(answer, circuit, RLC);
+            answer[3] = 0;
+        }
+        Act::Block => write_head(answer, circuit, BLA),
+        Act::Unblock => write_head(answer, circuit, UBA),
+        Act::ResetGroup => {
+            write_head(answer, circuit, GRA);
+            write_status(message, ask, answer, 3);
+        }
+        Act::BlockGroup => {
+            write_head(answer, circuit, CGBA);
+            answer[3] = ask.block;
+            write_status(message, ask, answer, 4);
+        }
+        Act::UnblockGroup => {
+            write_head(answer, circuit, CGUA);
             answer[3] = ask.block;
             write_status(message, ask, answer, 4);
         }
@@ -396,14 +216,20 @@ fn write_reply(message: &[u8], ask: Ask, answer: &mut [u8])
 }
 
 // Whether the message is an IAM on a circuit that is busy or blocked.
-fn taken(states: &[u8], kind: u8, circuit: usize) -> bool
+fn taken(states: &[u8], act: Act, circuit: usize) -> bool
     requires { ⌜ circuit < length (now states) ⌝ }
-    ensures { λ r. ⌜ r ≡ isTaken (now (states .entry)) kind circuit ⌝ }
+    ensures { λ r. ⌜ r ≡ isTaken (now (states .entry)) act circuit ⌝ }
 {
-    if kind == IAM {
-        return states[circuit] != 0;
+    match act {
+        Act::Seize => states[circuit] != 0,
+        Act::Release => false,
+        Act::Reset => false,
+        Act::Block => false,
+        Act::Unblock => false,
+        Act::ResetGroup => false,
+        Act::BlockGroup => false,
+        Act::UnblockGroup => false,
     }
-    false
 }
 
 // Whether what is asked is allowed: 19, 20, 21, then 13.
@@ -416,7 +242,7 @@ fn allow(
     ask: Ask,
 ) -> Verdict
     requires { ⌜ (length (now states) ≡ 4096) × (length (now owners) ≡ 4096) × Sound (now message) ask ⌝ }
-    ensures { λ r. ⌜ verdictTold r ≡ allowedOf (now (states .entry)) (now (owners .entry)) sender (now (message .entry)) room ask ⌝ }
+    ensures { λ r. ⌜ verdictTold r ≡ allowedOf (tables (now (states .entry)) (now (owners .entry))) sender (now (message .entry)) room ask ⌝ }
 {
     let circuit = ask.circuit;
     let range = ask.range;
@@ -426,11 +252,11 @@ fn allow(
     if found(first_illegal(states, circuit, range)) {
         return Verdict::Refused(20, 0);
     }
-    let kind = ask.kind;
-    if taken(states, kind, circuit) {
+    let act = ask.act;
+    if taken(states, act, circuit) {
         return Verdict::Refused(21, 0);
     }
-    if room < reply_length(kind, range) {
+    if room < reply_length(act, range) {
         return Verdict::Refused(13, 0);
     }
     Verdict::Granted(ask)
@@ -438,15 +264,15 @@ fn allow(
 
 // All that is looked at before anything is stored: 16, the reader's, 17, 14, 18, 19, 20, 21, 13.
 fn judge(states: &[u8], owners: &[u8], sender: u32, message: &[u8], room: usize) -> Verdict
-    ensures { λ r. ⌜ verdictTold r ≡ grantOf (now (states .entry)) (now (owners .entry)) sender (now (message .entry)) room ⌝ }
+    ensures { λ r. ⌜ verdictTold r ≡ grantOf (tables (now (states .entry)) (now (owners .entry))) sender (now (message .entry)) room ⌝ }
 {
-    if states.len() != 4096 {
+    if states.len() != CIRCUITS {
         return Verdict::Refused(16, 0);
     }
-    if owners.len() != 4096 {
+    if owners.len() != CIRCUITS {
         return Verdict::Refused(16, 0);
     }
-    match decode(message) {
+    match asks::decode(message) {
         Verdict::Refused(n, at) => Verdict::Refused(n, at),
         Verdict::Granted(ask) => allow(states, owners, sender, message, room, ask),
     }
@@ -460,16 +286,17 @@ pub fn act(
     sender: u32,
     message: &[u8],
     answer: &mut [u8],
-) -> Acted
-    ensures { λ r. ⌜ after (actedTold r) (now (states .exit)) (now (answer .exit)) ≡
-        actOf (now (states .entry)) (now (owners .entry)) sender (now (message .entry)) (now (answer .entry)) ⌝ }
+) -> Written
+    ensures { λ r. ⌜ after (writtenTold r) (now (states .exit)) (now (answer .exit)) ≡
+        actOf (tables (now (states .entry)) (now (owners .entry))) sender (now (message .entry)) (now (answer .entry)) ⌝ }
 {
     match judge(states, owners, sender, message, answer.len()) {
-        Verdict::Refused(n, _) => Acted::Refused(n),
+        Verdict::Refused(n, _) => Written::Refused(n, 0),
         Verdict::Granted(ask) => {
             write_reply(message, ask, answer);
             change_rows(states, message, ask);
-            Acted::Answered(reply_length(ask.kind, ask.range))
+            let act = ask.act;
+            Written::Octets(reply_length(act, ask.range))
         }
     }
 }

@@ -1,7 +1,7 @@
 -- Reading and writing again: the one compact form, or 12 where it cannot hold a length or a pointer, and nothing else.
 use Prim.Native.Nat.{ℕ, _+_, _*_, _/_, _%_, _≤_, _<_}
-use mathlib.Core.Path.{_≡_, refl, sym, _∙_, ap, subst}
-use mathlib.Core.Bool.{Bool, true, false}
+use mathlib.Core.Path.{_≡_, refl, sym, _∙_, ap}
+use mathlib.Core.Bool.{true, false}
 use mathlib.Core.List.{List, [], _∷_, _++_}
 use mathlib.Core.Logic.{_⊎_, inl, inr, ⊎-elim}
 use native.Mathlib.Omega.{arith}
@@ -10,41 +10,37 @@ use borrow.Author.Tests.{le-ltb}
 use lib.ListN.{length}
 use Rattle.octets.specs.Octet.{octet, octets, AllOctets}
 use Rattle.octets.specs.Answer.{Answer, accepted, refused, _then_, unplaced}
-use Rattle.octets.specs.Filled.{Done, done, leaving, roomFor}
-use Rattle.octets.specs.Faults.{Fault, Judges, fault, numbered}
+use Rattle.octets.specs.Filled.{leaving, roomFor}
+use Rattle.octets.specs.Faults.{Judges, fault, numbered}
 use Rattle.octets.proofs.Answer.{accepted-same, refused-accepted}
-use Rattle.octets.proofs.Filled.{room-judges}
+use Rattle.octets.proofs.Filled.{judges-filled, room-judges}
 use Rattle.octets.proofs.Faults.{judges-done, judges-there, judges-absent, judges-then, judges-unplaced}
-use Rattle.layout.specs.declared.Shape.{Shape}
-use Rattle.layout.specs.declared.Parts.{Parts}
-use Rattle.layout.specs.declared.Row.the-variants.{Has}
-use Rattle.layout.specs.Laid.{LaidOut}
-use Rattle.writing.specs.Write.{Order, order, octetsOf, writtenOf, exceeds, marks, contentsIn, Fits}
-use Rattle.writing.specs.Faults.{Exceeds}
-use Rattle.writing.specs.Compact.{Compact, partOf, saidWith, saidBy}
-use Rattle.writing.specs.declared.Written.{Written}
-use Rattle.writing.specs.declared.Written.the-variants.{Refused}
-use Rattle.writing.specs.Told.{writtenTold}
+use Rattle.writing.specs.Write.{order, orderOctets, writtenOf, exceeds, marks, contentsIn}
+use Rattle.layout.specs.Spans.{partOf}
+use Rattle.writing.specs.Compact.{saidWith, saidBy}
+use Rattle.octets.specs.declared.Written.{Written}
+use Rattle.octets.specs.declared.Written.the-variants.{Refused}
+use Rattle.octets.specs.Told.{writtenTold}
 use Rattle.writing.proofs.Again.{said-fits, compact-is}
 use Rattle.writing.proofs.Held.{compact-held}
 use Rattle.writing.proofs.Shorter.{again-or-twelve}
 use Rattle.writing.proofs.Judged.{exceeds-exactly}
-use Rattle.writing.proofs.Determined.{writing-determined, writing-keeps}
+use Rattle.octets.proofs.Told.{writing-determined, writing-keeps}
 use Rattle.isup.specs.declared.Message.{Message}
-use Rattle.isup.specs.Table.{shapeOf}
 use Rattle.isup.specs.Read.{circuitOf, readOf}
-use Rattle.isup.specs.Write.{headOf, orderOf, ofShape, writeIn, writeOf, againIn, compactIn, compactOf}
+use Rattle.isup.specs.Write.{headOf, orderOf, writeIn, writeOf, againIn, compactIn, compactOf}
 use Rattle.isup.specs.WellFormed.{WellFormed}
 use Rattle.isup.specs.Compact.{CompactForm, Says}
 use Rattle.isup.specs.Faults.{readerFaults}
 use Rattle.isup.specs.WriteFaults.{CannotHold, compactFaults}
-use Rattle.isup.proofs.Exactly.{read-exactly, well-formed-unique}
+use Rattle.isup.proofs.Exactly.{read-exactly}
 use Rattle.isup.proofs.Judged.{read-judges}
-use Rattle.isup.proofs.WriteBack.{table-two, table-few, write-reads-back}
+use Rattle.isup.proofs.WriteBack.{write-reads-back-in}
+use Rattle.isup.proofs.Table.{table-two}
 
 -- a message of octets, well formed
 module _ (m : List ℕ) (o : AllOctets m) (x : Message) (f : WellFormed m x) where
-  low : x .circuit ≤ 4095
+  pub low : x .circuit ≤ 4095
   low = let h : octet m 1 % 16 < 16 = mod-lt _ (omega arith) in omega (arith, f .circuit, o 0)
 
   octet-kind : x .kind ≤ 255
@@ -56,26 +52,26 @@ module _ (m : List ℕ) (o : AllOctets m) (x : Message) (f : WellFormed m x) whe
       let t = said-fits m 2 (f .shape) (x .parts) (f .params) (f .laid) (headOf (x .circuit)) .third (table-two (x .kind) (f .shape) (f .listed)) in
       λ i. order (headOf (x .circuit)) (f .kind i) (partOf m (x .parts .fixed)) (partOf m (x .parts .first)) (partOf m (x .parts .second)) (sym t i) (partOf m (x .parts .optional))
 
-  again-written : againIn m x ≡ writtenOf (f .shape) 268 (saidWith (headOf (x .circuit)) m 2 (x .parts))
+  pub again-written : againIn m x ≡ writtenOf (f .shape) 268 (saidWith (headOf (x .circuit)) m 2 (x .parts))
   unfolding writeIn
   again-written = rw (le-ltb _ _ low, le-ltb _ _ octet-kind, f .listed) (ap (writtenOf (f .shape) 268) again-order)
 
-  compact-again : compactIn m ≡ againIn m x
+  pub compact-again : compactIn m ≡ againIn m x
   unfolding compactIn
   compact-again = rw (read-exactly m x .1 f) refl
 
-  pub compact-or-twelve : ((exceeds (marks (f .shape .opt) (contentsIn (f .shape) (saidBy m 2 (x .parts))) (partOf m (x .parts .optional))) ≡ true) × (compactIn m ≡ refused 12 0))
+  pub compact-or-twelve-in : ((exceeds (marks (f .shape .opt) (contentsIn (f .shape) (saidBy m 2 (x .parts))) (partOf m (x .parts .optional))) ≡ true) × (compactIn m ≡ refused 12 0))
       ⊎ ((exceeds (marks (f .shape .opt) (contentsIn (f .shape) (saidBy m 2 (x .parts))) (partOf m (x .parts .optional))) ≡ false)
-      × (compactIn m ≡ accepted (length (octetsOf (f .shape) (saidWith (headOf (x .circuit)) m 2 (x .parts))), octetsOf (f .shape) (saidWith (headOf (x .circuit)) m 2 (x .parts)))))
-  compact-or-twelve =
+      × (compactIn m ≡ accepted (length (orderOctets (f .shape) (saidWith (headOf (x .circuit)) m 2 (x .parts))), orderOctets (f .shape) (saidWith (headOf (x .circuit)) m 2 (x .parts)))))
+  compact-or-twelve-in =
       ⊎-elim (λ y. inl (y .0, compact-again ∙ again-written ∙ y .1)) (λ y. inr (y .0, compact-again ∙ again-written ∙ y .1))
-      (again-or-twelve m 2 268 (f .shape) (x .parts) (f .params) (headOf (x .circuit)) refl (table-few (x .kind) (f .shape) (f .listed)) (f .laid) (f .most))
+      (again-or-twelve m 2 268 (f .shape) (x .parts) (f .params) (headOf (x .circuit)) refl (f .laid) (f .most))
 
   -- what it gives is in the compact form, and says the same: circuit, type, fixed octets, contents, optional run
-  pub compact-says-same : (n : ℕ) (ys : List ℕ) → compactIn m ≡ accepted (n, ys)
+  pub compact-says-same-in : (n : ℕ) (ys : List ℕ) → compactIn m ≡ accepted (n, ys)
       → (n ≡ length ys) × ((y : Message) × (readOf ys ≡ accepted y) × CompactForm ys y
       × Says ys y (x .circuit) (x .kind) (partOf m (x .parts .fixed)) (partOf m (x .parts .first)) (partOf m (x .parts .second)) (partOf m (x .parts .optional)))
-  compact-says-same n ys e = write-reads-back (x .circuit) (x .kind) _ _ _ _ n ys (sym compact-again ∙ e)
+  compact-says-same-in n ys e = write-reads-back-in (x .circuit) (x .kind) _ _ _ _ n ys (sym compact-again ∙ e)
 
 -- the header of a message in compact form
 head-back : (m : List ℕ) → AllOctets m → octet m 1 < 16 → 2 ≤ length m → headOf (circuitOf m) ≡ octets m 0 2
@@ -88,23 +84,22 @@ head-back (a ∷ b ∷ r) o s l =
     rw (e, h, k) refl
 
 -- a message that is in compact form already comes back as it is
-pub compact-unchanged : (m : List ℕ) (x : Message) → AllOctets m → CompactForm m x → compactIn m ≡ accepted (length m, m)
-compact-unchanged m x o c =
+pub compact-unchanged-in : (m : List ℕ) (x : Message) → AllOctets m → CompactForm m x → compactIn m ≡ accepted (length m, m)
+compact-unchanged-in m x o c =
     let f = c .formed in
-    let few = table-few (x .kind) (f .shape) (f .listed) in
     let h : headOf (x .circuit) ≡ octets m 0 2 = ap headOf (f .circuit) ∙ head-back m o (c .spare) (omega (arith, f .least)) in
-    let q : octetsOf (f .shape) (saidWith (headOf (x .circuit)) m 2 (x .parts)) ≡ m = ap (λ (k : List ℕ). octetsOf (f .shape) (saidWith k m 2 (x .parts))) h ∙ sym (compact-is m 2 (f .shape) (x .parts) (f .params) few (c .tight)) in
+    let q : orderOctets (f .shape) (saidWith (headOf (x .circuit)) m 2 (x .parts)) ≡ m = ap (λ (k : List ℕ). orderOctets (f .shape) (saidWith k m 2 (x .parts))) h ∙ sym (compact-is m 2 (f .shape) (x .parts) (f .params) (c .tight)) in
     ⊎-elim
-    (λ y. absurd (let e = compact-held m 2 (f .shape) (x .parts) (f .params) few o (c .tight) in let z : _≡_ {A = ℕ} 0 1 = cc in omega arith))
+    (λ y. absurd (let e = compact-held m 2 (f .shape) (x .parts) (f .params) o (c .tight) in let z : _≡_ {A = ℕ} 0 1 = cc in omega arith))
     (λ y. y .1 ∙ (λ i. accepted (length (q i), q i)))
-    (compact-or-twelve m o x (c .formed))
+    (compact-or-twelve-in m o x (c .formed))
 
 -- two messages in compact form that say the same are the same octets
 pub compact-form-one : (m m′ : List ℕ) (x x′ : Message) → AllOctets m → AllOctets m′ → CompactForm m x → CompactForm m′ x′
     → Says m x (x′ .circuit) (x′ .kind) (partOf m′ (x′ .parts .fixed)) (partOf m′ (x′ .parts .first)) (partOf m′ (x′ .parts .second)) (partOf m′ (x′ .parts .optional)) → m ≡ m′
 compact-form-one m m′ x x′ o o′ c c′ s =
     let a : againIn m x ≡ againIn m′ x′ = (λ i. writeIn (s .circuit i) (s .kind i) (s .fixed i) (s .first i) (s .second i) (s .run i)) in
-    let e = sym (compact-unchanged m x o c) ∙ compact-again m o x (c .formed) ∙ a ∙ sym (compact-again m′ o′ x′ (c′ .formed)) ∙ compact-unchanged m′ x′ o′ c′ in
+    let e = sym (compact-unchanged-in m x o c) ∙ compact-again m o x (c .formed) ∙ a ∙ sym (compact-again m′ o′ x′ (c′ .formed)) ∙ compact-unchanged-in m′ x′ o′ c′ in
     ap (λ (z : ℕ × List ℕ). z .1) (accepted-same e)
 
 -- ---- refused exactly when
@@ -122,16 +117,17 @@ again-judges m o x f =
     ⊎-elim
     (λ z. absurd (refused-accepted (sym (z .1) ∙ y .1)))
     (λ z. let k : _≡_ {A = ℕ} 0 1 = (let u = z .0 in cc) in omega arith)
-    (compact-or-twelve m o (h .1 .0) (h .1 .1)))
+    (compact-or-twelve-in m o (h .1 .0) (h .1 .1)))
     (judges-done _)))
-    (compact-or-twelve m o x f)
+    (compact-or-twelve-in m o x f)
 
-pub compact-judges : (m buffer : List ℕ) → AllOctets m → Judges (compactIn m then roomFor buffer) (compactFaults m buffer)
-unfolding compactIn
+pub compact-judges : (m buffer : List ℕ) → AllOctets m → Judges (compactOf m buffer .answer) (compactFaults m buffer)
+unfolding compactIn compactOf
 compact-judges m buffer o =
-    room-judges (compactIn m) buffer (numbered (readerFaults m) ++ (fault 12 0 (CannotHold m) ∷ []))
+    judges-filled buffer (compactIn m then roomFor buffer) (compactFaults m buffer)
+    (room-judges (compactIn m) buffer (numbered (readerFaults m) ++ (fault 12 0 (CannotHold m) ∷ []))
     (judges-then (unplaced (readOf m)) (againIn m) (numbered (readerFaults m)) _ (judges-unplaced (readOf m) (readerFaults m) (read-judges m))
-    (λ x e. again-judges m o x (read-exactly m x .0 (placed-back (readOf m) x e))))
+    (λ x e. again-judges m o x (read-exactly m x .0 (placed-back (readOf m) x e)))))
   where
     placed-back : (r : Answer Message) (x : Message) → unplaced r ≡ accepted x → r ≡ accepted x
     placed-back (accepted y) x e = e
@@ -142,13 +138,13 @@ pub write-determined : (circuit kind : ℕ) (fixed first second run buffer : Lis
     → leaving (writtenTold r) left ≡ writeOf circuit kind fixed first second run buffer → leaving (writtenTold t) left′ ≡ writeOf circuit kind fixed first second run buffer → (r ≡ t) × (left ≡ left′)
 write-determined circuit kind fixed first second run buffer r t left left′ = writing-determined (writeOf circuit kind fixed first second run buffer) r t left left′
 
-pub write-keeps : (circuit kind : ℕ) (fixed first second run buffer : List ℕ) (n : ℕ) (left : List ℕ) → leaving (writtenTold (Refused n)) left ≡ writeOf circuit kind fixed first second run buffer → left ≡ buffer
+pub write-keeps : (circuit kind : ℕ) (fixed first second run buffer : List ℕ) (n at : ℕ) (left : List ℕ) → leaving (writtenTold (Refused n at)) left ≡ writeOf circuit kind fixed first second run buffer → left ≡ buffer
 unfolding writeOf
-write-keeps circuit kind fixed first second run buffer n left e = writing-keeps buffer (writeIn circuit kind fixed first second run then roomFor buffer) n left e
+write-keeps circuit kind fixed first second run buffer n at left e = writing-keeps buffer (writeIn circuit kind fixed first second run then roomFor buffer) n at left e
 
 pub compact-determined : (m buffer : List ℕ) (r t : Written) (left left′ : List ℕ) → leaving (writtenTold r) left ≡ compactOf m buffer → leaving (writtenTold t) left′ ≡ compactOf m buffer → (r ≡ t) × (left ≡ left′)
 compact-determined m buffer r t left left′ = writing-determined (compactOf m buffer) r t left left′
 
-pub compact-keeps : (m buffer : List ℕ) (n : ℕ) (left : List ℕ) → leaving (writtenTold (Refused n)) left ≡ compactOf m buffer → left ≡ buffer
+pub compact-keeps : (m buffer : List ℕ) (n at : ℕ) (left : List ℕ) → leaving (writtenTold (Refused n at)) left ≡ compactOf m buffer → left ≡ buffer
 unfolding compactOf
-compact-keeps m buffer n left e = writing-keeps buffer (compactIn m then roomFor buffer) n left e
+compact-keeps m buffer n at left e = writing-keeps buffer (compactIn m then roomFor buffer) n at left e

@@ -1,10 +1,10 @@
 -- The reader from what its calls ensure, over plain variables.
 use Prim.Native.Nat.{ℕ, _≤_}
-use mathlib.Core.Path.{_≡_, refl, sym, _∙_, ap}
+use mathlib.Core.Path.{_≡_, sym, _∙_, ap}
 use mathlib.Core.List.{List}
 use native.Mathlib.Omega.{arith}
 use lib.ListN.{length}
-use Rattle.octets.specs.Answer.{Answer, accepted, refused, _then_, unplaced}
+use Rattle.octets.specs.Answer.{accepted, refused, _then_, unplaced}
 use Rattle.layout.specs.declared.Row.{Row}
 use Rattle.layout.specs.declared.Parts.{Parts}
 use Rattle.layout.specs.declared.Body.{Body}
@@ -17,7 +17,6 @@ use Rattle.isup.specs.declared.Scanned.{Scanned}
 use Rattle.isup.specs.declared.Scanned.the-variants.{Whole, Faulty}
 use Rattle.isup.specs.Table.{shapeOf}
 use Rattle.isup.specs.Read.{circuitOf, message, readOf}
-use Rattle.isup.specs.Find.{Spot, soughtIn, locateOf}
 use Rattle.isup.specs.Told.{scanTold}
 
 module _ (m : List ℕ) (k : ℕ) (r : Row) (b : Body) (kq : k ≡ kindAt m 2) (rq : r ≡ shapeOf k) (bq : bodyTold b ≡ partsOf m 2 268 r) where
@@ -50,11 +49,3 @@ module _ (m : List ℕ) (x : Scanned) (q : scanTold x ≡ readOf m) where
 
   pub whole-unplaced : (y : Message) → x ≡ Whole y → accepted y ≡ unplaced (readOf m)
   whole-unplaced y e = ap unplaced (sym (whole-read y e))
-
-  pub faulty-located : (d : List ℕ) (name n at : ℕ) → x ≡ Faulty n at → refused n at ≡ locateOf m d name
-  unfolding locateOf
-  faulty-located d name n at e = ap (λ z. z then λ y. soughtIn m (y .parts .optional) d name) (sym (faulty-read n at e))
-
-  pub whole-located : (d : List ℕ) (name : ℕ) (y : Message) → x ≡ Whole y → soughtIn m (y .parts .optional) d name ≡ locateOf m d name
-  unfolding locateOf
-  whole-located d name y e = ap (λ z. z then λ y. soughtIn m (y .parts .optional) d name) (sym (whole-read y e))

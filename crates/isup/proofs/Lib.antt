@@ -1,10 +1,11 @@
+pub mod Table
 pub mod Given
-pub mod Spots
 pub mod Exactly
 pub mod Judged
 pub mod Determined
 pub mod Rewritten
 pub mod WriteBack
 pub mod CompactAgain
+pub mod Lent
 pub mod Rel
 pub mod Refutations

@@ -2,34 +2,18 @@
 use Prim.Native.Nat.{ℕ}
 use mathlib.Core.Path.{_≡_, refl, sym}
 use mathlib.Core.List.{List, [], _∷_}
-use Rattle.octets.specs.Answer.{Answer, accepted, refused}
+use Rattle.octets.specs.Answer.{refused}
 use Rattle.octets.specs.Filled.{leaving}
 use Rattle.octets.proofs.Answer.{refused-accepted}
-use Rattle.layout.specs.Run.{stepAt, stops, stopFrom, runFrom, isRun, seeks, namedFrom}
-use Rattle.layout.specs.Container.{variableAt, optionalAt, variableSlot, optionalSlot, sharesOf, judged, held, containerOf, partsOf}
+use Rattle.runs.specs.Run.{stepAt, stops, stopFrom}
+use Rattle.layout.specs.Container.{runFrom, variableAt, optionalAt, variableSlot, optionalSlot, sharesOf, judged, held, containerOf, partsOf}
 use Rattle.isup.specs.Table.{shapeOf}
 use Rattle.isup.specs.Read.{readOf}
-use Rattle.isup.specs.Find.{Spot, spot, namedIn, soughtIn, locateOf}
 use Rattle.isup.specs.Write.{writeIn, writeOf}
 
 -- ANM with one optional parameter: name 20, contents 41 (hexadecimal)
-abbrev one : List ℕ
+abbrev pub one : List ℕ
 one = 0x01 ∷ 0x00 ∷ 0x09 ∷ 0x01 ∷ 0x20 ∷ 0x01 ∷ 0x41 ∷ 0x00 ∷ []
-
--- the parameter is found in the message, at octet 6
-pub found-there : locateOf one [] 0x20 ≡ accepted (spot 0 6 1)
-unfolding stepAt stops stopFrom runFrom isRun seeks namedFrom variableAt optionalAt variableSlot optionalSlot sharesOf judged held containerOf partsOf shapeOf readOf namedIn soughtIn locateOf
-found-there = refl
-
--- a finder that looks for name 1 whatever it was given finds nothing there
-pub other-name-refuted : locateOf one [] 0x01 ≡ refused 15 0
-unfolding stepAt stops stopFrom runFrom isRun seeks namedFrom variableAt optionalAt variableSlot optionalSlot sharesOf judged held containerOf partsOf shapeOf readOf namedIn soughtIn locateOf
-other-name-refuted = refl
-
--- a finder that takes the message for the defaults reads no message at all
-pub elsewhere-refuted : locateOf [] one 0x20 ≡ refused 1 0
-unfolding partsOf readOf locateOf
-elsewhere-refuted = refl
 
 -- a reader that refuses all refuses this one
 pub all-refused-refuted : (n at : ℕ) → readOf one ≡ refused n at → ⊥

@@ -1,6 +1,6 @@
 -- The writer and the compact form from what their calls ensure, over plain variables.
 use Prim.Native.Nat.{ℕ, _≤_}
-use mathlib.Core.Path.{_≡_, refl, sym, _∙_, ap}
+use mathlib.Core.Path.{_≡_, refl}
 use mathlib.Core.List.{List}
 use borrow.Author.Tests.{le-ltb}
 use Rattle.octets.specs.Answer.{accepted, refused}
@@ -9,7 +9,7 @@ use Rattle.layout.specs.declared.Shape.{Shape}
 use Rattle.layout.specs.declared.Row.the-variants.{Has, Unknown}
 use Rattle.layout.proofs.Exactly.{Inside, parts-inside}
 use Rattle.writing.specs.Write.{writePartsOf}
-use Rattle.writing.specs.Compact.{partOf}
+use Rattle.layout.specs.Spans.{partOf}
 use Rattle.isup.specs.declared.Message.{Message}
 use Rattle.isup.specs.Table.{shapeOf}
 use Rattle.isup.specs.Read.{readOf}

@@ -3,8 +3,8 @@ use Prim.Native.Nat.{ℕ, _<_}
 use mathlib.Core.Path.{_≡_}
 use mathlib.Core.List.{List}
 use Rattle.octets.specs.Octet.{octet}
-use Rattle.layout.specs.Laid.{Param}
-use Rattle.writing.specs.Compact.{Compact, partOf}
+use Rattle.layout.specs.Spans.{partOf}
+use Rattle.writing.specs.Compact.{Compact}
 use Rattle.isup.specs.declared.Message.{Message}
 use Rattle.isup.specs.WellFormed.{WellFormed}
 
@@ -22,3 +22,9 @@ pub record Says (m : List ℕ) (x : Message) (c k : ℕ) (f a b r : List ℕ) : 
   pub first : partOf m (x .parts .first) ≡ a
   pub second : partOf m (x .parts .second) ≡ b
   pub run : partOf m (x .parts .optional) ≡ r
+
+-- the octets ys are a message in compact form that says what message m says, which reads as x: circuit, type, fixed octets, contents and optional run
+abbrev pub SaysSame : List ℕ → Message → List ℕ → Type 0
+SaysSame m x ys =
+    (y : Message) × CompactForm ys y
+    × Says ys y (x .circuit) (x .kind) (partOf m (x .parts .fixed)) (partOf m (x .parts .first)) (partOf m (x .parts .second)) (partOf m (x .parts .optional))

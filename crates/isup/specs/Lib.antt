@@ -1,6 +1,7 @@
+pub mod Limits
+pub mod Types
 pub mod Table
 pub mod Read
-pub mod Find
 pub mod Told
 pub mod WellFormed
 pub mod Faults

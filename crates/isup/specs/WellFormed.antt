@@ -1,45 +1,25 @@
--- A well-formed ISUP message, and what it is to find a parameter, as the paper says it: no order of reading.
+-- A well-formed ISUP message, as the paper says it: no order of reading.
 use Prim.Native.Nat.{ℕ, _≤_}
 use mathlib.Core.Path.{_≡_}
 use mathlib.Core.List.{List}
-use mathlib.Core.Logic.{_⊎_}
 use lib.ListN.{length}
 use Rattle.octets.specs.Octet.{octet}
 use Rattle.layout.specs.declared.Shape.{Shape}
 use Rattle.layout.specs.declared.Row.the-variants.{Has}
-use Rattle.layout.specs.Laid.{Param, Params, LaidOut, NoneNamed, FirstNamed}
+use Rattle.runs.specs.Params.{Param}
+use Rattle.layout.specs.Laid.{LaidOut}
 use Rattle.isup.specs.declared.Message.{Message}
+use Rattle.isup.specs.Limits.{longest}
 use Rattle.isup.specs.Table.{shapeOf}
 use Rattle.isup.specs.Read.{circuitOf}
-use Rattle.isup.specs.Find.{Spot}
 
 -- 3 to 268 octets, a type of the table, and its parts laid out as the type's row says
 pub record WellFormed (m : List ℕ) (x : Message) : Type 0 where
   pub shape : Shape
   pub params : List Param
   pub least : 3 ≤ length m
-  pub most : length m ≤ 268
+  pub most : length m ≤ longest
   pub circuit : x .circuit ≡ circuitOf m
   pub kind : x .kind ≡ octet m 2
   pub listed : shapeOf (x .kind) ≡ Has shape
   pub laid : LaidOut m 2 shape (x .parts) params
-
--- the message has no optional parameter of that name
-abbrev pub Lacks : List ℕ → ℕ → Type 0
-Lacks m name = (x : Message) (f : WellFormed m x) → NoneNamed name (f .params)
-
--- the run that is lent has none
-abbrev pub RunLacks : List ℕ → ℕ → Type 0
-RunLacks d name = (ds : List Param) → Params d 0 ds (length d) → NoneNamed name ds
-
--- of the message's parameters the first of that name is the one at the spot
-abbrev pub InMessage : List ℕ → ℕ → Spot → Type 0
-InMessage m name s = (s .holder ≡ 0) × ((x : Message) × (f : WellFormed m x) × FirstNamed m (x .parts .optional .from) (f .params) name (s .start) (s .len))
-
--- the message has none, and of the defaults' parameters the first of that name is the one at the spot
-abbrev pub InDefaults : List ℕ → List ℕ → ℕ → Spot → Type 0
-InDefaults m d name s = (s .holder ≡ 100) × ((x : Message) × WellFormed m x) × Lacks m name × ((ds : List Param) × Params d 0 ds (length d) × FirstNamed d 0 ds name (s .start) (s .len))
-
--- the defaults are whole parameters, and the spot is the message's, else the defaults'
-abbrev pub FoundAt : List ℕ → List ℕ → ℕ → Spot → Type 0
-FoundAt m d name s = ((ds : List Param) × Params d 0 ds (length d)) × (name ≤ 255) × (InMessage m name s ⊎ InDefaults m d name s)

@@ -4,13 +4,14 @@ use Prim.Native.Nat.{ℕ, _/_, _%_}
 use mathlib.Core.List.{List, [], _∷_}
 use lib.Dec.{ltb}
 use Rattle.octets.specs.Choice.{if_then_else_}
-use Rattle.octets.specs.Answer.{Answer, accepted, refused, _then_, unplaced}
+use Rattle.octets.specs.Answer.{Answer, refused, _then_, unplaced}
 use Rattle.octets.specs.Filled.{Done, done, roomFor}
 use Rattle.layout.specs.declared.Row.{Row}
 use Rattle.layout.specs.declared.Row.the-variants.{Has, Unknown}
 use Rattle.writing.specs.Write.{Order, order, writtenOf}
-use Rattle.writing.specs.Compact.{partOf}
+use Rattle.layout.specs.Spans.{partOf}
 use Rattle.isup.specs.declared.Message.{Message}
+use Rattle.isup.specs.Limits.{longest, lastCircuit}
 use Rattle.isup.specs.Table.{shapeOf}
 use Rattle.isup.specs.Read.{readOf}
 
@@ -24,15 +25,15 @@ orderOf circuit kind fixed first second run = order (headOf circuit) kind fixed 
 
 -- 3 for a type that is not in the table
 abbrev pub ofShape : Row → Order → Answer (ℕ × List ℕ)
-ofShape (Has s) o = writtenOf s 268 o
+ofShape (Has s) o = writtenOf s longest o
 ofShape Unknown o = refused 3 0
 
 -- 9 for a circuit number above 4095; a type is an octet, so 3 above 255
 unfoldable pub writeIn : ℕ → ℕ → List ℕ → List ℕ → List ℕ → List ℕ → Answer (ℕ × List ℕ)
 writeIn circuit kind fixed first second run =
-    if ltb 4095 circuit then refused 9 0
-    else (if ltb 255 kind then refused 3 0
-    else ofShape (shapeOf kind) (orderOf circuit kind fixed first second run))
+    if ltb lastCircuit circuit then refused 9 0
+    else if ltb 255 kind then refused 3 0
+    else ofShape (shapeOf kind) (orderOf circuit kind fixed first second run)
 
 -- all that writing does: how many octets were written, or the refusal, 13 last; and the buffer afterwards
 unfoldable pub writeOf : ℕ → ℕ → List ℕ → List ℕ → List ℕ → List ℕ → List ℕ → Done ℕ
@@ -46,5 +47,6 @@ againIn m x = writeIn (x .circuit) (x .kind) (partOf m (x .parts .fixed)) (partO
 unfoldable pub compactIn : List ℕ → Answer (ℕ × List ℕ)
 compactIn m = unplaced (readOf m) then againIn m
 
+-- all that it does: how many octets were written, or the refusal, 13 last; and the buffer afterwards
 unfoldable pub compactOf : List ℕ → List ℕ → Done ℕ
 compactOf m buffer = done buffer (compactIn m then roomFor buffer)

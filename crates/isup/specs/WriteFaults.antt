@@ -13,6 +13,7 @@ use Rattle.writing.specs.Compact.{saidBy}
 use Rattle.isup.specs.declared.Message.{Message}
 use Rattle.isup.specs.WellFormed.{WellFormed}
 use Rattle.isup.specs.Faults.{readerFaults}
+use Rattle.isup.specs.Limits.{longest, lastCircuit}
 use Rattle.isup.specs.Table.{shapeOf}
 use Rattle.isup.specs.Write.{orderOf, writeIn, compactIn}
 
@@ -22,13 +23,13 @@ NoType kind = (255 < kind) ⊎ (shapeOf kind ≡ Unknown)
 
 -- what is wrong for a type that the table has: 10, 11, 12, 2
 abbrev pub shapeFaults : Row → Order → List Fault
-shapeFaults (Has s) o = partsFaults s 268 o
+shapeFaults (Has s) o = partsFaults s longest o
 shapeFaults Unknown o = []
 
 -- the writer's: 9, 3, 10, 11, 12, 2
 abbrev pub writerFaults : ℕ → ℕ → List ℕ → List ℕ → List ℕ → List ℕ → List Fault
 writerFaults circuit kind fixed first second run =
-    fault 9 0 (4095 < circuit)
+    fault 9 0 (lastCircuit < circuit)
     ∷ fault 3 0 (NoType kind)
     ∷ shapeFaults (shapeOf kind) (orderOf circuit kind fixed first second run)
 

@@ -1,25 +1,27 @@
-// ISUP: the 24 types, the circuit number, the reader, the finding of optional parameters, and the writer.
+// ISUP: the 24 types, the circuit number, the reader and the writer.
 ghost use mathlib.Core.Path.{_≡_};
 ghost use Prim.Native.Nat.{_+_, _≤_, _<_};
-ghost use mathlib.Core.List.{[]};
 ghost use lib.ListN.{length};
 ghost use Rattle.octets.specs.Answer.{accepted, unplaced};
-ghost use Rattle.octets.specs.Stretch.{Stretch};
 ghost use Rattle.octets.specs.Filled.{leaving};
 ghost use Rattle.isup.specs.Table.{shapeOf};
 ghost use Rattle.isup.specs.Read.{circuitOf, readOf};
-ghost use Rattle.isup.specs.Find.{namedIn, firstOf, soughtIn, locateOf, startOf, lengthOf, codeOf, heldBy};
 ghost use Rattle.isup.specs.Write.{writeOf, compactOf};
-ghost use Rattle.writing.specs.Compact.{partOf};
-ghost use Rattle.writing.specs.Told.{writtenTold};
-ghost use Rattle.isup.specs.Told.{scanTold, readingTold, locatedTold};
+ghost use Rattle.layout.specs.Spans.{partOf};
+ghost use Rattle.octets.specs.Told.{writtenTold};
+ghost use Rattle.isup.specs.Told.{scanTold, readingTold};
 use layout::Body;
-use layout::Found;
 use layout::Parts;
 use layout::Row;
 use layout::Shape;
 use layout::Span;
-use writing::Written;
+use octets::Written;
+
+// A message has so many octets at the most.
+pub const LONGEST: usize = 268;
+
+// Circuits are numbered from 0 to this one.
+pub const LAST_CIRCUIT: u32 = 4095;
 
 // The types of the table.
 pub const IAM: u8 = 0x01;
@@ -89,13 +91,6 @@ pub enum Reading {
     Refused(u8),
 }
 
-// Where an optional parameter's contents start and how many octets they have, in the message or in the defaults; or the refusal's number with the octet that it is about.
-pub enum Located {
-    Message(usize, usize),
-    Defaults(usize, usize),
-    Refused(u8, usize),
-}
-
 // What the table says of a type octet: its shape row, or that it is not in the table. One answer for each of the 256.
 pub fn shape_of(kind: u8) -> Row
     ensures { λ r. ⌜ r ≡ shapeOf kind ⌝ }
@@ -149,7 +144,7 @@ pub fn scan(message: &[u8]) -> Scanned
     ensures { λ r. ⌜ scanTold r ≡ readOf (now (message .entry)) ⌝ }
 {
     let kind = layout::kind_at(message, 2);
-    match layout::read_parts(message, 2, 268, shape_of(kind)) {
+    match layout::read_parts(message, 2, LONGEST, shape_of(kind)) {
         Body::Laid(parts) => Scanned::Whole(Message {
             circuit: circuit_of(message),
             kind,
@@ -169,95 +164,6 @@ pub fn read(message: &[u8]) -> Reading
     }
 }
 
-// The first parameter of that name in a message's optional run.
-fn named_in(message: &[u8], run: Span, name: u8) -> Found
-    ensures { λ r. ⌜ r ≡ namedIn (now (message .entry)) run name ⌝ }
-{
-    let from = run.from;
-    if from < run.to {
-        return layout::named(message, from, name);
-    }
-    Found::Nowhere
-}
-
-// Where the first parameter of that name has its contents: in the message, else in the defaults, an optional run without its closing 0. Refused with the reader's numbers, then 11 for the defaults, then 15.
-pub fn locate(message: &[u8], defaults: &[u8], name: u32) -> Located
-    ensures { λ r. ⌜ locatedTold r ≡ locateOf (now (message .entry)) (now (defaults .entry)) name ⌝ }
-{
-    match scan(message) {
-        Scanned::Faulty(n, at) => Located::Refused(n, at),
-        Scanned::Whole(x) => {
-            let parts = x.parts;
-            locate_in(message, parts.optional, defaults, name)
-        }
-    }
-}
-
-// The same in a message that reads, whose optional run is `run`.
-fn locate_in(message: &[u8], run: Span, defaults: &[u8], name: u32) -> Located
-    ensures { λ r. ⌜ locatedTold r ≡ soughtIn (now (message .entry)) run (now (defaults .entry)) name ⌝ }
-{
-    if layout::is_run(defaults) {
-        if 255 < name {
-            return Located::Refused(15, 0);
-        }
-        return first_of(message, run, defaults, name as u8);
-    }
-    Located::Refused(11, 0)
-}
-
-// The message's first parameter of that name, else the defaults'.
-fn first_of(message: &[u8], run: Span, defaults: &[u8], name: u8) -> Located
-    ensures { λ r. ⌜ locatedTold r ≡ firstOf (now (message .entry)) run (now (defaults .entry)) name ⌝ }
-{
-    match named_in(message, run, name) {
-        Found::At(at, len) => Located::Message(at, len),
-        Found::Nowhere => match layout::named(defaults, 0, name) {
-            Found::At(at, len) => Located::Defaults(at, len),
-            Found::Nowhere => Located::Refused(15, 0),
-        },
-    }
-}
-
-// The contents of the first parameter of that name, as that stretch of the message itself; the empty stretch at its start where there is none.
-pub fn find(message: &[u8], name: u32) -> &[u8]
-    ensures { λ r. ⌜ Stretch (message .entry) (startOf (locateOf (now (message .entry)) [] name)) (lengthOf (locateOf (now (message .entry)) [] name)) r ⌝ }
-{
-    find_or_default(message, &message[0..0], name)
-}
-
-// What `find` answers by: 0 where the message holds the parameter, or the refusal's number.
-pub fn find_code(message: &[u8], name: u32) -> u8
-    ensures { λ r. ⌜ r ≡ codeOf (locateOf (now (message .entry)) [] name) ⌝ }
-{
-    find_or_default_code(message, &message[0..0], name)
-}
-
-// The contents of the first parameter of that name, as that stretch of the message, else of the defaults; the empty stretch at the message's start where neither has it.
-pub fn find_or_default<'a>(message: &'a [u8], defaults: &'a [u8], name: u32) -> &'a [u8]
-    ensures { λ r. ⌜ Stretch
-        (heldBy (locateOf (now (message .entry)) (now (defaults .entry)) name) (message .entry) (defaults .entry))
-        (startOf (locateOf (now (message .entry)) (now (defaults .entry)) name))
-        (lengthOf (locateOf (now (message .entry)) (now (defaults .entry)) name)) r ⌝ }
-{
-    match locate(message, defaults, name) {
-        Located::Message(at, len) => &message[at..at + len],
-        Located::Defaults(at, len) => &defaults[at..at + len],
-        Located::Refused(_, _) => &message[0..0],
-    }
-}
-
-// What `find_or_default` answers by: 0 where the message holds the parameter, 100 where the defaults do, or the refusal's number.
-pub fn find_or_default_code(message: &[u8], defaults: &[u8], name: u32) -> u8
-    ensures { λ r. ⌜ r ≡ codeOf (locateOf (now (message .entry)) (now (defaults .entry)) name) ⌝ }
-{
-    match locate(message, defaults, name) {
-        Located::Message(_, _) => 0,
-        Located::Defaults(_, _) => 100,
-        Located::Refused(n, _) => n,
-    }
-}
-
 // Writes a message in its compact form: fills the front of `out` and keeps the rest, and answers how many octets were written.
 // Refused with 9, 3, 10, 11, 12, 2, 13 in that order, and then `out` holds what it held.
 pub fn write(
@@ -271,20 +177,20 @@ pub fn write(
 ) -> Written
     ensures { λ r. ⌜ leaving (writtenTold r) (now (out .exit)) ≡ writeOf circuit kind (now (fixed .entry)) (now (first .entry)) (now (second .entry)) (now (optional .entry)) (now (out .entry)) ⌝ }
 {
-    if 4095 < circuit {
-        return Written::Refused(9);
+    if LAST_CIRCUIT < circuit {
+        return Written::Refused(9, 0);
     }
     if 255 < kind {
-        return Written::Refused(3);
+        return Written::Refused(3, 0);
     }
     let octet = kind as u8;
     match shape_of(octet) {
-        Row::Unknown => Written::Refused(3),
+        Row::Unknown => Written::Refused(3, 0),
         Row::Has(shape) => {
             let head = [(circuit % 256) as u8, (circuit / 256) as u8];
             writing::write_parts(
                 shape,
-                268,
+                LONGEST as u16,
                 &head,
                 octet,
                 fixed,
@@ -304,7 +210,7 @@ pub fn compact(message: &[u8], out: &mut [u8]) -> Written
     ensures { λ r. ⌜ leaving (writtenTold r) (now (out .exit)) ≡ compactOf (now (message .entry)) (now (out .entry)) ⌝ }
 {
     match scan(message) {
-        Scanned::Faulty(n, _) => Written::Refused(n),
+        Scanned::Faulty(n, _) => Written::Refused(n, 0),
         Scanned::Whole(x) => again(message, x, out),
     }
 }

@@ -5,26 +5,26 @@ use mathlib.Core.Bool.{Bool, true, false}
 use mathlib.Core.List.{List, [], _∷_}
 use mathlib.Core.Logic.{_⊎_, inl, inr, ⊎-elim, _↔_}
 use native.Mathlib.Omega.{arith}
-use borrow.Author.Tests.{lt-ltb, le-ltb, le-leb, lt-leb, eq-eqb, ne-eqb, ltb-true, ltb-false, leb-true, leb-false, eqb-true, eqb-false}
+use borrow.Author.Tests.{lt-ltb, le-ltb, lt-leb, eq-eqb, ne-eqb, ltb-true, ltb-false, leb-false, eqb-true, eqb-false}
 use lib.Dec.{ltb, leb, eqb}
 use lib.ListN.{length}
 use Rattle.octets.specs.Octet.{octet}
-use Rattle.octets.specs.Choice.{if_then_else_}
-use Rattle.octets.specs.Answer.{Answer, accepted, refused, _then_}
+use Rattle.octets.specs.Answer.{Answer, accepted, _then_}
 use Rattle.octets.proofs.Choice.{chosen, decided}
 use Rattle.octets.proofs.Answer.{refused-accepted, accepted-same, then-accepted, past-test, test-past}
 use Rattle.layout.specs.declared.Span.{Span}
-use Rattle.layout.specs.declared.Stop.{Stop}
-use Rattle.layout.specs.declared.Stop.the-variants.{Closed, Ended, Passed}
+use Rattle.runs.specs.declared.Stop.{Stop}
+use Rattle.runs.specs.declared.Stop.the-variants.{Closed, Ended, Passed}
 use Rattle.layout.specs.declared.Shape.{Shape}
 use Rattle.layout.specs.declared.Parts.{Parts}
 use Rattle.layout.specs.declared.Row.{Row}
 use Rattle.layout.specs.declared.Row.the-variants.{Has, Unknown}
-use Rattle.layout.specs.Run.{span, stopFrom, closed, runFrom, isRun, ended}
-use Rattle.layout.specs.Container.{nothing, past, pointed, variableFrom, variableAt, optionalAt, variableSlot, optionalSlot, startOf, endOf, sharesOf, later, contentsOf, runOf, held, judged, containerOf, ofRow, partsOf}
-use Rattle.layout.specs.Laid.{Points, Variable, Param, Params, Closes, Run, Optional, VariableSlot, OptionalSlot, In, Share, AllApart, LaidOut, Framed}
+use Rattle.layout.specs.Spans.{span}
+use Rattle.layout.specs.Container.{closed, runFrom, nothing, past, pointed, variableFrom, variableAt, optionalAt, variableSlot, optionalSlot, startOf, endOf, sharesOf, contentsOf, runOf, held, judged, containerOf, shapedOf, ofRow, partsOf}
+use Rattle.runs.specs.Params.{Param, Params, Closes, Run}
+use Rattle.layout.specs.Laid.{Points, Variable, Optional, VariableSlot, OptionalSlot, Share, AllApart, LaidOut, Framed}
 use Rattle.layout.proofs.Pointed.{pointed-points, points-pointed}
-use Rattle.layout.proofs.Runs.{placeOf, Stopped, params-on, params-inside, stop-from, from-stop, params-unique}
+use Rattle.runs.proofs.Runs.{params-on, stop-from, from-stop, params-unique}
 use Rattle.layout.proofs.Whole.{container-whole}
 
 pub span-path : (s : Span) (f t : ℕ) → s .from ≡ f → s .to ≡ t → span f t ≡ s
@@ -74,20 +74,6 @@ run-exactly m t s = (
       let r = x .1 .1 in
       closed-exactly t _ s .1 (r .0, stop-from (x .1 .0) m t (Closed (r .0)) (r .1) (r .2), x .0, r .3),
 )
-
--- a run that is lent by itself is whole exactly when it is parameters to its very end
-pub is-run-exactly : (r : List ℕ) → (isRun r ≡ true) ↔ ((qs : List Param) × Params r 0 qs (length r))
-unfolding isRun
-is-run-exactly r = (λ h. there (stopFrom r 0) refl h, λ x. ap ended (stop-from (x .0) r 0 (Ended (length r)) (x .1) (omega arith)))
-  where
-    there : (x : Stop) → stopFrom r 0 ≡ x → ended x ≡ true → (qs : List Param) × Params r 0 qs (length r)
-    there (Closed z) e h = absurd (let z : _≡_ {A = ℕ} 0 1 = cc in omega arith)
-    there (Passed z) e h = absurd (let z : _≡_ {A = ℕ} 0 1 = cc in omega arith)
-    there (Ended z) e h =
-        let x = from-stop r 0 (Ended z) e in
-        let a : length r ≤ z = x .2 in
-        let q : z ≡ length r = omega (arith, params-inside (x .0) r 0 z (omega arith) (x .1)) in
-        (x .0, subst (λ (y : ℕ). Params r 0 (x .0) y) q (x .1))
 
 pub optional-exactly : (m : List ℕ) (p e : ℕ) (s : Span) → (optionalAt m p e ≡ accepted s) ↔ ((qs : List Param) × Optional m e p qs s)
 unfolding optionalAt
@@ -140,9 +126,6 @@ variable-proper m e at k n s = ⊎-elim (λ h. inr (omega (arith, h .1 .ends))) 
 pub optional-proper : (o : Bool) (m : List ℕ) (e : ℕ) (qs : List Param) (s : Span) → OptionalSlot m e o qs s → Proper s
 optional-proper false m e qs s h = inl (h .1)
 optional-proper true m e qs s h = ⊎-elim (λ x. inl (x .2)) (λ x. let r = x .2 in inr (omega (arith, params-on qs m (s .from) (r .0) (r .1), r .3))) h
-
-no-in : {s : Span} {i : ℕ} → s ≡ nothing → In s i → ⊥
-no-in e h = omega (arith, ap (λ (x : Span). x .to) e, h .1)
 
 pub shares-exactly : (a b : Span) → Proper a → Proper b → (sharesOf a b ≡ true) ↔ Share a b
 unfolding sharesOf
@@ -212,14 +195,14 @@ properly m w s k x = variable-proper m (endOf w s) (startOf w s) k (s .vars) x
 abbrev slotOf : List ℕ → ℕ → Shape → ℕ → Answer Span
 slotOf m w s k = variableSlot m (startOf w s) k (s .vars) (endOf w s)
 
-pub laid-exactly : (m : List ℕ) (w : ℕ) (shape : Shape) (p : Parts) → (containerOf m w shape ≡ accepted p) ↔ ((qs : List Param) × LaidOut m w shape p qs)
+pub laid-exactly : (m : List ℕ) (w : ℕ) (shape : Shape) (p : Parts) → (shapedOf m w shape ≡ accepted p) ↔ ((qs : List Param) × LaidOut m w shape p qs)
 unfolding containerOf
-laid-exactly m w shape p = (λ h. let x = past-test 4 _ (ltb (length m) (endOf w shape)) h in there (x .0) (x .1), λ l. back (l .0) (l .1))
+laid-exactly m w shape p = (λ h. let t = past-test 3 w (ltb 3 (shape .vars)) h in let x = past-test 4 _ (ltb (length m) (endOf w shape)) (t .1) in there (ltb-false _ _ (t .0)) (x .0) (x .1), λ l. test-past 3 w (le-ltb _ _ (l .1 .few)) (back (l .0) (l .1)))
   where
-    there : ltb (length m) (endOf w shape) ≡ false
+    there : shape .vars ≤ 3 → ltb (length m) (endOf w shape) ≡ false
         → (slotOf m w shape 0 then λ a. slotOf m w shape 1 then λ b. slotOf m w shape 2 then λ c. optionalSlot m (shape .opt) (endOf w shape) then λ d. judged (span (w + 1) (startOf w shape)) a b c d) ≡ accepted p
         → (qs : List Param) × LaidOut m w shape p qs
-    there l h =
+    there few l h =
         let x₁ = then-accepted (slotOf m w shape 0) _ h in
         let x₂ = then-accepted (slotOf m w shape 1) _ (x₁ .2) in
         let x₃ = then-accepted (slotOf m w shape 2) _ (x₂ .2) in
@@ -229,7 +212,7 @@ laid-exactly m w shape p = (λ h. let x = past-test 4 _ (ltb (length m) (endOf w
         let vc = slot-exactly m (startOf w shape) 2 (shape .vars) (endOf w shape) (x₃ .0) .0 (x₃ .1) in
         let o = optional-slot-exactly m (shape .opt) (endOf w shape) (x₄ .0) .0 (x₄ .1) in
         let j = judged-exactly _ (x₁ .0) (x₂ .0) (x₃ .0) (x₄ .0) (properly m w shape 0 _ va) (properly m w shape 1 _ vb) (properly m w shape 2 _ vc) (optional-proper (shape .opt) m (endOf w shape) (o .0) (x₄ .0) (o .1)) p .0 (x₄ .2) in
-        (o .0, record { a = x₁ .0; b = x₂ .0; c = x₃ .0; d = x₄ .0; whole = ltb-false _ _ l; first = va; second = vb; third = vc; optional = o .1; apart = j .0; holds = sym (j .1) })
+        (o .0, record { a = x₁ .0; b = x₂ .0; c = x₃ .0; d = x₄ .0; few = few; whole = ltb-false _ _ l; first = va; second = vb; third = vc; optional = o .1; apart = j .0; holds = sym (j .1) })
 
     back : (qs : List Param) → LaidOut m w shape p qs → containerOf m w shape ≡ accepted p
     back qs l =
@@ -241,7 +224,7 @@ laid-exactly m w shape p = (λ h. let x = past-test 4 _ (ltb (length m) (endOf w
         ∙ judged-exactly _ (l .a) (l .b) (l .c) (l .d) (properly m w shape 0 _ (l .first)) (properly m w shape 1 _ (l .second)) (properly m w shape 2 _ (l .third))
         (optional-proper (shape .opt) m (endOf w shape) qs (l .d) (l .optional)) p .1 (l .apart, sym (l .holds))
 
-row-inv : (m : List ℕ) (w : ℕ) (r : Row) (p : Parts) → ofRow m w r ≡ accepted p → (s : Shape) × (r ≡ Has s) × (containerOf m w s ≡ accepted p)
+row-inv : (m : List ℕ) (w : ℕ) (r : Row) (p : Parts) → ofRow m w r ≡ accepted p → (s : Shape) × (r ≡ Has s) × (shapedOf m w s ≡ accepted p)
 row-inv m w (Has s) p h = (s, refl, h)
 row-inv m w Unknown p h = absurd (refused-accepted h)
 
@@ -284,9 +267,9 @@ laid-params-unique m w shape p p′ qs qs′ l l′ = go (shape .opt) (l .option
         x
 
 -- a variable pointer of 0 is never accepted
-pub no-zero-pointer : (m : List ℕ) (w : ℕ) (shape : Shape) (p : Parts) (qs : List Param) (k : ℕ) → k < 3 → k < shape .vars → LaidOut m w shape p qs → octet m (startOf w shape + k) ≡ 0 → ⊥
-no-zero-pointer m w shape p qs k h v l z =
-    ⊎-elim (λ e. out 0 _ (sym e) (l .first)) (⊎-elim (λ e. out 1 _ (sym e) (l .second)) (λ e. out 2 _ (sym e) (l .third))) (cases k h)
+pub no-zero-pointer : (m : List ℕ) (w : ℕ) (shape : Shape) (p : Parts) (qs : List Param) (k : ℕ) → k < shape .vars → LaidOut m w shape p qs → octet m (startOf w shape + k) ≡ 0 → ⊥
+no-zero-pointer m w shape p qs k v l z =
+    ⊎-elim (λ e. out 0 _ (sym e) (l .first)) (⊎-elim (λ e. out 1 _ (sym e) (l .second)) (λ e. out 2 _ (sym e) (l .third))) (cases k (omega (arith, l .few)))
   where
     out : (j : ℕ) (s : Span) → j ≡ k → VariableSlot m (endOf w shape) (startOf w shape) j (shape .vars) s → ⊥
     out j s e = ⊎-elim (λ x. omega (arith, x .1 .pointed .counted, x .1 .pointed .behind, ap (λ (i : ℕ). octet m (startOf w shape + i)) e)) (λ x. omega (arith, x .0))

@@ -1,48 +1,26 @@
 -- Gaps and octets after the last part are ignored: a message that agrees on what is looked at is laid out the same.
-use Prim.Native.Nat.{ℕ, _+_, _-_, _≤_, _<_}
-use mathlib.Core.Path.{_≡_, refl, sym, _∙_, ap, subst}
+use Prim.Native.Nat.{ℕ, _+_, _-_, _<_}
+use mathlib.Core.Path.{_≡_, refl, sym, _∙_}
 use mathlib.Core.Bool.{Bool, true, false}
-use mathlib.Core.List.{List, [], _∷_}
-use mathlib.Core.Logic.{_⊎_, inl, inr, ⊎-elim}
+use mathlib.Core.List.{List}
+use mathlib.Core.Logic.{inl, inr, ⊎-elim}
 use native.Mathlib.Omega.{arith}
 use lib.ListN.{length}
-use Rattle.octets.specs.Octet.{octet, octets}
-use Rattle.octets.proofs.Octet.{octets-agree}
+use Rattle.octets.specs.Octet.{octet}
 use Rattle.layout.specs.declared.Span.{Span}
 use Rattle.layout.specs.declared.Shape.{Shape}
 use Rattle.layout.specs.declared.Parts.{Parts}
 use Rattle.layout.specs.Container.{startOf, endOf}
-use Rattle.layout.specs.Laid.{Points, Variable, Param, ParamAt, Params, VariableSlot, OptionalSlot, In, LaidOut}
-use Rattle.layout.specs.Gaps.{LookedAt, Agrees}
-use Rattle.layout.proofs.Runs.{params-on}
+use Rattle.runs.specs.Params.{Param}
+use Rattle.layout.specs.Laid.{VariableSlot, OptionalSlot, In, LaidOut}
+use Rattle.layout.specs.Gaps.{Agrees}
+use Rattle.runs.proofs.Runs.{params-on}
+use Rattle.runs.proofs.Same.{params-same}
 
 module _ (m m′ : List ℕ) where
   -- the two agree at an octet that the second has
   abbrev Same : ℕ → Type 0
   Same i = (i < length m′) × (octet m′ i ≡ octet m i)
-
-  params-same : (qs : List Param) (i z : ℕ) → Params m i qs z → ((j : ℕ) → i ≤ j → j ≤ z → Same j) → Params m′ i qs z
-  params-same [] i z p s = p
-  params-same (q ∷ qs) i z p s =
-      let x = p .1 in
-      let l : p .0 ≤ z = params-on qs m (p .0) z (p .2) in
-      let n₀ = s i (omega arith) (omega arith) in
-      let n₁ = s (i + 1) (omega arith) (omega arith) in
-      let nk = s (p .0) (omega arith) (omega arith) in
-      let e : p .0 ≡ i + 2 + octet m′ (i + 1) = omega (arith, n₁ .1) in (
-        p .0,
-        record {
-          named = x .named ∙ sym (n₀ .1);
-          not-zero = λ h. x .not-zero (sym (n₀ .1) ∙ h);
-          ends = e;
-          inside = omega (arith, nk .0);
-          holds =
-              x .holds
-              ∙ sym (octets-agree m m′ (i + 2) (octet m (i + 1)) (omega arith) (omega (arith, nk .0)) (λ j a b. s j (omega arith) (omega arith) .1))
-              ∙ ap (octets m′ (i + 2)) (sym (n₁ .1));
-        },
-        params-same qs (p .0) z (p .2) (λ j a b. s j (omega arith) b),
-      )
 
   slot-same : (e at k n : ℕ) (s : Span) → VariableSlot m e at k n s → (k < n → Same (at + k)) → ((i : ℕ) → In s i → Same i) → VariableSlot m′ e at k n s
   slot-same e at k n s v pointer part =
@@ -70,7 +48,7 @@ module _ (m m′ : List ℕ) where
       inr (
         λ y. x .0 (sym (a .1) ∙ y),
         record { counted = omega (arith, x .1 .counted, a .1); behind = x .1 .behind; within = t .0 },
-        (r .0, params-same qs (s .from) (r .0) (r .1) (λ j b c. part j (b, omega (arith, r .3))), (z .0, z .1 ∙ r .2 .1), r .3),
+        (r .0, params-same m m′ qs (s .from) (r .0) (r .1) (λ j b c. part j (b, omega (arith, r .3))), (z .0, z .1 ∙ r .2 .1), r .3),
       ))
       h
 
@@ -80,6 +58,7 @@ gaps-ignored {m} {w} {s} {p} {qs} l m′ g = record {
   b = l .b;
   c = l .c;
   d = l .d;
+  few = l .few;
   whole = let x = g (endOf w s - 1) (inl (omega arith, omega arith)) in omega (arith, x .0);
   first = slot-same m m′ (endOf w s) (startOf w s) 0 (s .vars) (l .a) (l .first) (λ h. g _ (inl (omega arith, omega arith))) (λ i h. g i (inr (inl h)));
   second = slot-same m m′ (endOf w s) (startOf w s) 1 (s .vars) (l .b) (l .second) (λ h. g _ (inl (omega arith, omega arith))) (λ i h. g i (inr (inr (inl h))));

@@ -1,45 +1,26 @@
 -- The container does not look at the header: two messages of one length that agree from the type octet on have the same answer, refusals and their octets included.
-use Prim.Native.Nat.{ℕ, zero, suc, _+_, _-_, _≤_, _<_}
-use mathlib.Core.Path.{_≡_, refl, sym, _∙_, ap}
-use mathlib.Core.Bool.{Bool, true, false}
+use Prim.Native.Nat.{ℕ, _+_, _-_, _≤_, _<_}
+use mathlib.Core.Path.{_≡_, refl, _∙_, ap}
+use mathlib.Core.Bool.{Bool}
 use mathlib.Core.List.{List}
 use native.Mathlib.Omega.{arith}
-use lib.Dec.{ltb, leb, eqb}
+use lib.Dec.{ltb, eqb}
 use lib.ListN.{length}
 use Rattle.octets.specs.Octet.{octet}
 use Rattle.octets.specs.Choice.{if_then_else_}
-use Rattle.octets.specs.Answer.{Answer, accepted, refused, _then_}
+use Rattle.octets.specs.Answer.{accepted, refused, _then_}
 use Rattle.octets.proofs.Answer.{then-same}
-use Rattle.layout.specs.declared.Span.{Span}
-use Rattle.layout.specs.declared.Step.{Step}
-use Rattle.layout.specs.declared.Step.the-variants.{Param, Close, End, Pass}
 use Rattle.layout.specs.declared.Shape.{Shape}
 use Rattle.layout.specs.declared.Row.{Row}
 use Rattle.layout.specs.declared.Row.the-variants.{Has, Unknown}
-use Rattle.layout.specs.Run.{span, stepAt, stepped, stops, stopFrom, closed, runFrom}
-use Rattle.layout.specs.Container.{nothing, pointed, variableFrom, variableAt, optionalAt, variableSlot, optionalSlot, startOf, endOf, judged, containerOf, ofRow, partsOf}
-use Rattle.layout.proofs.Steps.{step-says}
+use Rattle.layout.specs.Container.{closed, runFrom, nothing, pointed, variableFrom, variableAt, optionalAt, variableSlot, optionalSlot, startOf, endOf, containerOf, partsOf}
+use Rattle.runs.proofs.Same.{stop-same}
 use Rattle.layout.proofs.Pointed.{pointed-points}
 
 module _ (m m′ : List ℕ) (w : ℕ) (l : length m ≡ length m′) (s : (i : ℕ) → w ≤ i → octet m i ≡ octet m′ i) where
-  step-same : (i : ℕ) → w ≤ i → stepAt m i ≡ stepAt m′ i
-  unfolding stepAt
-  step-same i h = rw (l, s i h, s (i + 1) (omega arith)) refl
-
-  stops-same : (k i : ℕ) → w ≤ i → stops k m i ≡ stops k m′ i
-  unfolding stops
-  stops-same zero i h = refl
-  stops-same (suc k) i h = on (stepAt m i) refl (λ j. stops-same k j) ∙ ap (stepped i (stops k m′)) (step-same i h)
-    where
-      on : (x : Step) → stepAt m i ≡ x → ((j : ℕ) → w ≤ j → stops k m j ≡ stops k m′ j) → stepped i (stops k m) x ≡ stepped i (stops k m′) x
-      on (Param f) e ih = let y = step-says m i _ e in ih (f .at + f .len) (omega arith)
-      on Close e ih = refl
-      on End e ih = refl
-      on Pass e ih = refl
-
   run-same : (t : ℕ) → w ≤ t → runFrom m t ≡ runFrom m′ t
-  unfolding runFrom stopFrom
-  run-same t h = ap (closed t) (stops-same (suc (length m)) t h ∙ ap (λ n. stops (suc n) m′ t) l)
+  unfolding runFrom
+  run-same t h = ap (closed t) (stop-same m m′ w l s t h)
 
   pointed-same : (p e : ℕ) → w ≤ p → pointed m p e ≡ pointed m′ p e
   pointed-same p e h = rw (l, s p h) refl

@@ -1,33 +1,33 @@
 -- Refused exactly when: the number given back is the first fault in the paper's order, with its octet, and acceptance is the absence of all.
-use Prim.Native.Nat.{ℕ, _+_, _-_, _≤_, _<_}
-use mathlib.Core.Path.{_≡_, refl, sym, _∙_, ap, subst}
-use mathlib.Core.Bool.{Bool, true, false}
-use mathlib.Core.List.{List, [], _∷_, _++_}
-use mathlib.Core.Logic.{_⊎_, inl, inr, ⊎-elim, _↔_}
+use Prim.Native.Nat.{ℕ, _+_, _-_, _<_}
+use mathlib.Core.Path.{_≡_, refl, sym, _∙_, subst}
+use mathlib.Core.Bool.{true}
+use mathlib.Core.List.{List, [], _∷_}
+use mathlib.Core.Logic.{_⊎_, inl, inr, ⊎-elim}
 use native.Mathlib.Omega.{arith}
-use borrow.Author.Tests.{lt-ltb, le-ltb, le-leb, lt-leb, eq-eqb, ne-eqb, ltb-true, ltb-false, leb-true, leb-false, eqb-true, eqb-false}
+use borrow.Author.Tests.{ltb-true, ltb-false, leb-true, leb-false, eqb-true, eqb-false}
 use lib.Dec.{ltb, leb, eqb}
 use lib.ListN.{length}
 use Rattle.octets.specs.Octet.{octet}
 use Rattle.octets.specs.Choice.{if_then_else_}
 use Rattle.octets.specs.Answer.{Answer, accepted, refused, _then_}
-use Rattle.octets.specs.Faults.{Fault, Absent, Judges, fault}
+use Rattle.octets.specs.Faults.{Fault, Judges, fault}
 use Rattle.octets.proofs.Choice.{decided}
 use Rattle.octets.proofs.Answer.{accepted-same}
 use Rattle.octets.proofs.Faults.{judges-done, judges-there, judges-absent, judges-if, judges-then, judges-choice}
 use Rattle.layout.specs.declared.Span.{Span}
-use Rattle.layout.specs.declared.Stop.{Stop}
-use Rattle.layout.specs.declared.Stop.the-variants.{Closed, Ended, Passed}
+use Rattle.runs.specs.declared.Stop.{Stop}
+use Rattle.runs.specs.declared.Stop.the-variants.{Closed, Ended, Passed}
 use Rattle.layout.specs.declared.Shape.{Shape}
 use Rattle.layout.specs.declared.Parts.{Parts}
 use Rattle.layout.specs.declared.Row.{Row}
 use Rattle.layout.specs.declared.Row.the-variants.{Has, Unknown}
-use Rattle.layout.specs.Run.{span, stopFrom, closed, runFrom, isRun, ended}
-use Rattle.layout.specs.Container.{nothing, target, past, pointed, variableFrom, variableAt, optionalAt, variableSlot, optionalSlot, startOf, endOf, sharesOf, later, judged, containerOf, ofRow, partsOf}
-use Rattle.layout.specs.Laid.{Param, Params, VariableSlot, OptionalSlot, Share}
-use Rattle.layout.specs.Faults.{Breaks, NotClosed, BadRun, variableFaults, Wanted, optionalFaults, VariablePart, OptionalPart, sharing, sharingFaults, containerFaults, rowFaults, messageFaults}
+use Rattle.runs.specs.Run.{stopFrom}
+use Rattle.layout.specs.Container.{closed, runFrom, nothing, target, past, pointed, variableFrom, variableAt, optionalAt, variableSlot, optionalSlot, startOf, endOf, sharesOf, later, judged, containerOf, ofRow, partsOf}
+use Rattle.layout.specs.Laid.{Share}
+use Rattle.layout.specs.Faults.{Breaks, NotClosed, variableFaults, Wanted, optionalFaults, VariablePart, OptionalPart, LargerStart, sharing, containerFaults, NoRow, rowFaults, messageFaults}
 use Rattle.layout.proofs.Pointed.{pointed-points}
-use Rattle.layout.proofs.Runs.{Stopped, stop-from, from-stop}
+use Rattle.runs.proofs.Runs.{stop-from, from-stop}
 use Rattle.layout.proofs.Exactly.{Proper, variable-proper, optional-proper, shares-exactly, slot-exactly, optional-slot-exactly}
 
 -- ---- a pointer that is there, as P says
@@ -75,22 +75,6 @@ run-judges {P} m t h = go (stopFrom m t) refl
         judges-there (record { number = 7; there = λ at. P × NotClosed m t at }) [] z (h, (r .0, r .1, inr (r .2)))
         (λ at y. ⊎-elim (λ q. absurd (let z : _≡_ {A = ℕ} 0 1 = cc in omega arith)) (λ q. cc) (not-closed-stop m t at (y .1)))
 
--- a run that is lent by itself: whole, or it has one of the two faults
-pub bad-run-exactly : (r : List ℕ) → (isRun r ≡ false) ↔ BadRun r
-unfolding isRun
-bad-run-exactly r = (
-  λ h. there (stopFrom r 0) refl h,
-  λ x. ⊎-elim
-      (λ c. ap ended (stop-from (x .1) r 0 (Closed (x .0)) (x .2) c))
-      (λ c. ap ended (stop-from (x .1) r 0 (Passed (x .0)) (x .2) c))
-      (x .3),
-)
-  where
-    there : (x : Stop) → stopFrom r 0 ≡ x → ended x ≡ false → BadRun r
-    there (Closed z) e h = let y = from-stop r 0 (Closed z) e in (z, y .0, y .1, inl (y .2))
-    there (Passed z) e h = let y = from-stop r 0 (Passed z) e in (z, y .0, y .1, inr (y .2))
-    there (Ended z) e h = absurd (let z : _≡_ {A = ℕ} 0 1 = cc in omega arith)
-
 optional-judges : (m : List ℕ) (w : ℕ) (s : Shape) → Judges (optionalSlot m (s .opt) (endOf w s)) (optionalFaults m w s)
 unfolding optionalSlot optionalAt
 optional-judges m w s =
@@ -107,13 +91,23 @@ optional-judges m w s =
     judges-absent _ (λ at x. no (x .1 .0 .0)) (judges-absent _ (λ at x. no (x .0 .0)) (judges-done nothing)))
 
 -- ---- parts that share an octet
+larger-later : (a b : Span) → LargerStart a b (later a b)
+larger-later a b =
+    ⊎-elim
+    (λ t. rw t (record { first = omega (arith, ltb-true (a .from) (b .from) t); second = omega arith; one = inr refl }))
+    (λ f. rw f (record { first = omega arith; second = ltb-false (a .from) (b .from) f; one = inl refl }))
+    (decided (ltb (a .from) (b .from)))
+
+larger-one : (a b : Span) (at at′ : ℕ) → LargerStart a b at → LargerStart a b at′ → at ≡ at′
+larger-one a b at at′ x y = ⊎-elim (λ p. ⊎-elim (λ q. p ∙ sym q) (λ q. omega (arith, x .second, y .first)) (y .one)) (λ p. ⊎-elim (λ q. omega (arith, x .first, y .second)) (λ q. p ∙ sym q) (y .one)) (x .one)
+
 sharing-judges : {A B : Span → Type 0} {y : Answer Parts} {fs : List Fault} (a b : Span)
     → A a → ((x : Span) → A x → x ≡ a) → B b → ((x : Span) → B x → x ≡ b) → Proper a → Proper b
     → Judges y fs → Judges (if sharesOf a b then refused 8 (later a b) else y) (sharing A B ∷ fs)
 sharing-judges {A} {B} {y} {fs} a b ha ua hb ub pa pb j =
     judges-choice (sharesOf a b)
-    (λ t. judges-there (sharing A B) fs (later a b) (a, b, ha, hb, shares-exactly a b pa pb .0 t, refl)
-    (λ at x. x .5 ∙ (λ i. later (ua (x .0) (x .2) i) (ub (x .1) (x .3) i))))
+    (λ t. judges-there (sharing A B) fs (later a b) (a, b, ha, hb, shares-exactly a b pa pb .0 t, larger-later a b)
+    (λ at x. larger-one (x .0) (x .1) at _ (x .5) (larger-later (x .0) (x .1)) ∙ (λ i. later (ua (x .0) (x .2) i) (ub (x .1) (x .3) i))))
     (λ f. judges-absent (sharing A B)
     (λ at x.
     let s : Share a b = subst (λ (z : Span). Share z b) (ua (x .0) (x .2)) (subst (λ (z : Span). Share (x .0) z) (ub (x .1) (x .3)) (x .4)) in
@@ -159,9 +153,12 @@ module _ (m : List ℕ) (w : ℕ) (s : Shape) where
       (sharing-judges b d vb ub o ud pb pd
       (sharing-judges c d vc uc o ud pc pd (judges-done _)))))))))))
 
-row-judges : (m : List ℕ) (w : ℕ) (r : Row) → Judges (ofRow m w r) (fault 3 w (r ≡ Unknown) ∷ rowFaults m w r)
-row-judges m w Unknown = judges-there (fault 3 w (Unknown ≡ Unknown)) [] w (refl, refl) (λ at x. x .0)
-row-judges m w (Has s) = judges-absent _ (λ at x. let e = x .1 in let z : _≡_ {A = ℕ} 0 1 = cc in omega arith) (container-judges m w s)
+no-row-over : (s : Shape) → NoRow (Has s) → 3 < s .vars
+no-row-over s = ⊎-elim (λ e. absurd (let z : _≡_ {A = ℕ} 0 1 = cc in omega arith)) (λ x. let e = x .1 in let q : s ≡ x .0 = cc in rw q (x .2))
+
+row-judges : (m : List ℕ) (w : ℕ) (r : Row) → Judges (ofRow m w r) (fault 3 w (NoRow r) ∷ rowFaults m w r)
+row-judges m w Unknown = judges-there (fault 3 w (NoRow Unknown)) [] w (refl, inl refl) (λ at x. x .0)
+row-judges m w (Has s) = judges-if (ltb 3 (s .vars)) (λ t. inr (s, refl, ltb-true _ _ t)) (λ f x. omega (arith, ltb-false, no-row-over s x)) (λ f. container-judges m w s)
 
 pub parts-judges : (m : List ℕ) (w most : ℕ) (row : Row) → Judges (partsOf m w most row) (messageFaults m w most row)
 unfolding partsOf

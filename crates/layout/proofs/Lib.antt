@@ -1,9 +1,8 @@
-pub mod Steps
 pub mod Pointed
-pub mod Runs
 pub mod Whole
 pub mod Exactly
 pub mod Judged
 pub mod Gaps
 pub mod Header
 pub mod Determined
+pub mod Refutations

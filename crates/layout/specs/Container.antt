@@ -13,7 +13,10 @@ use Rattle.layout.specs.declared.Shape.{Shape}
 use Rattle.layout.specs.declared.Parts.{Parts}
 use Rattle.layout.specs.declared.Row.{Row}
 use Rattle.layout.specs.declared.Row.the-variants.{Has, Unknown}
-use Rattle.layout.specs.Run.{span, runFrom}
+use Rattle.layout.specs.Spans.{span}
+use Rattle.runs.specs.declared.Stop.{Stop}
+use Rattle.runs.specs.declared.Stop.the-variants.{Closed, Ended, Passed}
+use Rattle.runs.specs.Run.{stopFrom}
 
 -- a part that is not there
 abbrev pub nothing : Span
@@ -27,7 +30,8 @@ target m p = p + octet m p
 abbrev pub pointed : List ℕ → ℕ → ℕ → Answer ℕ
 pointed m p e =
     if ltb (target m p) e then refused 5 p
-    else (if leb (length m) (target m p) then refused 5 p else accepted (target m p))
+    else if leb (length m) (target m p) then refused 5 p
+    else accepted (target m p)
 
 -- past a variable parameter that starts at t: a length octet, then that many octets
 abbrev pub past : List ℕ → ℕ → ℕ
@@ -41,18 +45,30 @@ variableFrom m t = if ltb (length m) (past m t) then refused 6 t else accepted (
 unfoldable pub variableAt : List ℕ → ℕ → ℕ → Answer Span
 variableAt m p e = pointed m p e then variableFrom m
 
+-- the run of a message goes through the 0 that closes it. 7 where it passes the end or is not closed, about the name octet of the parameter that passes, or the octet where a name was due
+abbrev pub closed : ℕ → Stop → Answer Span
+closed from (Closed i) = accepted (span from (i + 1))
+closed from (Ended i) = refused 7 i
+closed from (Passed i) = refused 7 i
+
+-- the optional part that starts at t
+unfoldable pub runFrom : List ℕ → ℕ → Answer Span
+runFrom m t = closed t (stopFrom m t)
+
 -- the optional part whose pointer stands at p; the pointer may be 0: nothing there
 unfoldable pub optionalAt : List ℕ → ℕ → ℕ → Answer Span
 optionalAt m p e = if eqb (octet m p) 0 then accepted nothing else (pointed m p e then runFrom m)
 
--- the first pointer's octet: past the header, the type and the fixed part. Then one pointer for each variable parameter, then, if there is an optional part, one pointer to it
+-- how many pointers the optional part has: one if there is such a part
 abbrev pub bit : Bool → ℕ
 bit true = 1
 bit false = 0
 
+-- the first pointer's octet: past the header, the type and the fixed part
 abbrev pub startOf : ℕ → Shape → ℕ
 startOf w s = w + 1 + s .fixed
 
+-- where the pointers end: one for each variable parameter, then, if there is an optional part, one to it
 abbrev pub endOf : ℕ → Shape → ℕ
 endOf w s = startOf w s + s .vars + bit (s .opt)
 
@@ -66,18 +82,21 @@ optionalSlot m o e = if o then optionalAt m (e - 1) e else accepted nothing
 
 -- two parts share an octet where neither ends before the other starts
 unfoldable pub sharesOf : Span → Span → Bool
-sharesOf a b = if leb (b .to) (a .from) then false else (if leb (a .to) (b .from) then false else true)
+sharesOf a b = if leb (b .to) (a .from) then false else if leb (a .to) (b .from) then false else true
 
+-- the later start of the two
 abbrev pub later : Span → Span → ℕ
 later a b = if ltb (a .from) (b .from) then b .from else a .from
 
--- what a variable parameter holds is past its length octet; what an optional part holds comes before its closing 0
+-- what a variable parameter holds is past its length octet
 abbrev pub contentsOf : Span → Span
 contentsOf s = if ltb (s .from) (s .to) then span (s .from + 1) (s .to) else s
 
+-- what an optional part holds comes before its closing 0
 abbrev pub runOf : Span → Span
 runOf s = if ltb (s .from) (s .to) then span (s .from) (s .to - 1) else s
 
+-- what the parts hold, from the octets that each takes
 unfoldable pub held : Span → Span → Span → Span → Span → Parts
 held f a b c d = record { fixed = f; first = contentsOf a; second = contentsOf b; third = contentsOf c; optional = runOf d }
 
@@ -85,12 +104,12 @@ held f a b c d = record { fixed = f; first = contentsOf a; second = contentsOf b
 unfoldable pub judged : Span → Span → Span → Span → Span → Answer Parts
 judged f a b c d =
     if sharesOf a b then refused 8 (later a b)
-    else (if sharesOf a c then refused 8 (later a c)
-    else (if sharesOf a d then refused 8 (later a d)
-    else (if sharesOf b c then refused 8 (later b c)
-    else (if sharesOf b d then refused 8 (later b d)
-    else (if sharesOf c d then refused 8 (later c d)
-    else accepted (held f a b c d))))))
+    else if sharesOf a c then refused 8 (later a c)
+    else if sharesOf a d then refused 8 (later a d)
+    else if sharesOf b c then refused 8 (later b c)
+    else if sharesOf b d then refused 8 (later b d)
+    else if sharesOf c d then refused 8 (later c d)
+    else accepted (held f a b c d)
 
 -- a message of that shape, its type octet at w. 4 where the fixed part or the pointers are cut off, about the message's end
 unfoldable pub containerOf : List ℕ → ℕ → Shape → Answer Parts
@@ -106,13 +125,18 @@ containerOf m w s =
 abbrev pub kindAt : List ℕ → ℕ → ℕ
 kindAt m w = octet m w
 
+-- a row has three variable parameters at the most: 3 for another, about the type octet
+abbrev pub shapedOf : List ℕ → ℕ → Shape → Answer Parts
+shapedOf m w s = if ltb 3 (s .vars) then refused 3 w else containerOf m w s
+
 -- 3 for a type that is not in the family's table, about the type octet
 abbrev pub ofRow : List ℕ → ℕ → Row → Answer Parts
-ofRow m w (Has s) = containerOf m w s
+ofRow m w (Has s) = shapedOf m w s
 ofRow m w Unknown = refused 3 w
 
 -- a whole message of a family: 1 where it ends before the type octet, 2 where it is longer than the longest
 unfoldable pub partsOf : List ℕ → ℕ → ℕ → Row → Answer Parts
 partsOf m w most r =
     if leb (length m) w then refused 1 0
-    else (if ltb most (length m) then refused 2 0 else ofRow m w r)
+    else if ltb most (length m) then refused 2 0
+    else ofRow m w r

@@ -11,29 +11,27 @@ use Rattle.layout.specs.declared.Span.{Span}
 use Rattle.layout.specs.declared.Shape.{Shape}
 use Rattle.layout.specs.declared.Row.{Row}
 use Rattle.layout.specs.declared.Row.the-variants.{Has, Unknown}
-use Rattle.layout.specs.Run.{next}
-use Rattle.layout.specs.Container.{target, past, later, startOf, endOf}
-use Rattle.layout.specs.Laid.{Param, Params, Closes, VariableSlot, OptionalSlot, Share}
+use Rattle.layout.specs.Container.{target, past, startOf, endOf}
+use Rattle.runs.specs.Params.{Param, Params, Passes}
+use Rattle.layout.specs.Laid.{VariableSlot, OptionalSlot, Share}
 
 -- the pointer at p breaks the rule: its target lies before the end of the pointers, or at L or beyond
 abbrev pub Breaks : List ℕ → ℕ → ℕ → Type 0
 Breaks m e p = (target m p < e) ⊎ (length m ≤ target m p)
 
--- at octet i stands a parameter that passes the end
-abbrev pub Passes : List ℕ → ℕ → Type 0
-Passes m i = (i < length m) × (octet m i ≡ 0 → ⊥) × (length m < next m i)
-
 -- the optional part that starts at t passes L or is not closed: its whole parameters come to octet i, where the message has ended, or where a parameter stands that passes L
 abbrev pub NotClosed : List ℕ → ℕ → ℕ → Type 0
 NotClosed m t i = (qs : List Param) × Params m t qs i × ((length m ≤ i) ⊎ Passes m i)
 
--- a run that is lent by itself: its whole parameters come to a name 0, or to a parameter that passes its end
-abbrev pub BadRun : List ℕ → Type 0
-BadRun r = (i : ℕ) × (qs : List Param) × Params r 0 qs i × (Closes r i ⊎ Passes r i)
+-- `at` is the larger of the two starts
+pub record LargerStart (a b : Span) (at : ℕ) : Type 0 where
+  pub first : a .from ≤ at
+  pub second : b .from ≤ at
+  pub one : (at ≡ a .from) ⊎ (at ≡ b .from)
 
--- 8 for two parts, each told by what its span is: they share an octet, and `at` is the later of their starts
+-- 8 for two parts, each told by what its span is: they share an octet, and `at` is the larger of their starts
 abbrev pub sharing : (Span → Type 0) → (Span → Type 0) → Fault
-sharing A B = record { number = 8; there = λ at. (a b : Span) × A a × B b × Share a b × (at ≡ later a b) }
+sharing A B = record { number = 8; there = λ at. (a b : Span) × A a × B b × Share a b × LargerStart a b at }
 
 module _ (m : List ℕ) (w : ℕ) (s : Shape) where
   -- 5 then 6 for the k-th variable pointer
@@ -55,10 +53,11 @@ module _ (m : List ℕ) (w : ℕ) (s : Shape) where
       ∷ record { number = 7; there = λ at. Wanted × NotClosed m (target m (endOf w s - 1)) at }
       ∷ []
 
-  -- the span is that of the k-th variable part, or of the optional part
+  -- the span is that of the k-th variable part
   abbrev pub VariablePart : ℕ → Span → Type 0
   VariablePart k a = VariableSlot m (endOf w s) (startOf w s) k (s .vars) a
 
+  -- the span is that of the optional part
   abbrev pub OptionalPart : Span → Type 0
   OptionalPart a = (qs : List Param) × OptionalSlot m (endOf w s) (s .opt) qs a
 
@@ -79,15 +78,19 @@ module _ (m : List ℕ) (w : ℕ) (s : Shape) where
       fault 4 (length m) (length m < endOf w s)
       ∷ (variableFaults 0 ++ (variableFaults 1 ++ (variableFaults 2 ++ (optionalFaults ++ sharingFaults))))
 
+-- 3: the type is not in the table, or its row has more than three variable parameters
+abbrev pub NoRow : Row → Type 0
+NoRow r = (r ≡ Unknown) ⊎ ((s : Shape) × (r ≡ Has s) × (3 < s .vars))
+
 -- what is wrong with the container of a type that the table has
 abbrev pub rowFaults : List ℕ → ℕ → Row → List Fault
 rowFaults m w (Has s) = containerFaults m w s
 rowFaults m w Unknown = []
 
--- a message of a family: 1 where L is under the header and the type octet, 2 where it is over the longest, 3 for a type that is not in the table
+-- a message of a family: 1 where L is under the header and the type octet, 2 where it is over the longest, 3 for a type that is not in the table or has no row that can be read
 abbrev pub messageFaults : List ℕ → ℕ → ℕ → Row → List Fault
 messageFaults m w most r =
     fault 1 0 (length m ≤ w)
     ∷ fault 2 0 (most < length m)
-    ∷ fault 3 w (r ≡ Unknown)
+    ∷ fault 3 w (NoRow r)
     ∷ rowFaults m w r

@@ -8,7 +8,8 @@ use Rattle.octets.specs.Octet.{octet}
 use Rattle.layout.specs.declared.Shape.{Shape}
 use Rattle.layout.specs.declared.Parts.{Parts}
 use Rattle.layout.specs.Container.{endOf}
-use Rattle.layout.specs.Laid.{Param, In, LaidOut}
+use Rattle.runs.specs.Params.{Param}
+use Rattle.layout.specs.Laid.{In, LaidOut}
 
 -- octet i is the type's, the fixed part's or a pointer's, or in one of the parts
 abbrev pub LookedAt : {m : List ℕ} {w : ℕ} {s : Shape} {p : Parts} {qs : List Param} → LaidOut m w s p qs → ℕ → Type 0

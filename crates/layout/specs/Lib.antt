@@ -1,4 +1,4 @@
-pub mod Run
+pub mod Spans
 pub mod Container
 pub mod Told
 pub mod Laid

@@ -10,15 +10,17 @@ use Rattle.layout.specs.declared.Slot.the-variants.{At, Bad}
 use Rattle.layout.specs.declared.Body.{Body}
 use Rattle.layout.specs.declared.Body.the-variants.{Laid, Broken}
 
--- of the pointer at p
+-- where the pointer at p points, or 5 about the pointer
 abbrev pub targetTold : ℕ → Target → Answer ℕ
 targetTold p (To t) = accepted t
 targetTold p Off = refused 5 p
 
+-- the octets that a part takes, or the number with the octet that it is about
 abbrev pub slotTold : Slot → Answer Span
 slotTold (At s) = accepted s
 slotTold (Bad n at) = refused n at
 
+-- where the parts stand, or the number with the octet that it is about
 abbrev pub bodyTold : Body → Answer Parts
 bodyTold (Laid p) = accepted p
 bodyTold (Broken n at) = refused n at

@@ -1,16 +1,15 @@
 -- Each way in which reading and finding end.
-use Prim.Native.Nat.{ℕ, _+_, _*_, _≤_, _<_}
-use mathlib.Core.Path.{_≡_, refl, sym, _∙_, ap}
+use Prim.Native.Nat.{ℕ, _*_, _≤_, _<_}
+use mathlib.Core.Path.{_≡_, refl, _∙_, ap}
 use mathlib.Core.List.{List, [], _∷_}
-use native.Mathlib.Omega.{arith}
 use borrow.Author.Tests.{lt-ltb, le-ltb}
 use lib.ListN.{length}
-use Rattle.octets.specs.Answer.{Answer, accepted, refused, _then_, unplaced}
+use Rattle.octets.specs.Answer.{Answer, accepted, refused, unplaced}
 use Rattle.octets.specs.Filled.{done, filled, roomFor}
-use Rattle.octets.proofs.Answer.{refused-accepted, accepted-same}
+use Rattle.octets.proofs.Answer.{refused-accepted}
 use Rattle.isup.specs.declared.Message.{Message}
 use Rattle.isup.specs.Read.{readOf}
-use Rattle.isup.specs.Find.{Spot, locateOf}
+use Rattle.finding.specs.Find.{Spot, locateOf}
 use Rattle.llachurep.specs.Boundary.{Given, given, givenBy, Called, called, valuesOf, readGives, findGives}
 
 -- a number that was come by otherwise

@@ -6,7 +6,7 @@ use Rattle.octets.specs.Answer.{refused, _then_, unplaced}
 use Rattle.octets.specs.Filled.{roomFor}
 use Rattle.octets.proofs.Filled.{done-kept}
 use Rattle.isup.specs.Read.{readOf}
-use Rattle.isup.specs.Find.{locateOf}
+use Rattle.finding.specs.Find.{locateOf}
 use Rattle.llachurep.specs.Boundary.{valuesOf, readGives, findGives}
 
 pub read-gives-keeps : (m parts : List ℕ) (n at : ℕ) → readGives m parts .answer ≡ refused n at → readGives m parts .left ≡ parts

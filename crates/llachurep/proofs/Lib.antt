@@ -2,3 +2,6 @@ pub mod Small
 pub mod Gives
 pub mod Determined
 pub mod Keeps
+pub mod Judged
+pub mod Numbers
+pub mod Refused

@@ -1,25 +1,24 @@
 -- Everything that goes into an answer is small enough for it.
-use Prim.Native.Nat.{ℕ, _+_, _*_, _/_, _≤_}
-use mathlib.Core.Path.{_≡_, refl, sym, _∙_, ap}
+use Prim.Native.Nat.{ℕ, _≤_, _<_}
+use mathlib.Core.Path.{_≡_, ap}
 use mathlib.Core.Bool.{Bool, true, false}
 use mathlib.Core.List.{List, [], _∷_}
-use mathlib.Core.Logic.{_⊎_, inl, inr, ⊎-elim}
+use mathlib.Core.Logic.{⊎-elim}
 use native.Mathlib.Omega.{arith}
+use native.Mathlib.Nat.{mod-lt}
 use borrow.Author.Tests.{ltb-false}
-use lib.Dec.{ltb, eqb}
+use lib.Dec.{ltb}
 use lib.ListN.{length}
 use Rattle.octets.specs.Octet.{AllOctets}
 use Rattle.octets.specs.Choice.{if_then_else_}
 use Rattle.octets.specs.Answer.{Answer, accepted, refused, _then_, unplaced}
-use Rattle.octets.specs.Filled.{Done, done, roomFor}
-use Rattle.octets.proofs.Choice.{chosen}
+use Rattle.octets.specs.Filled.{Done, done, leaving, roomFor}
 use Rattle.octets.proofs.Answer.{refused-accepted, accepted-same, then-accepted, past-test}
-use Rattle.octets.proofs.Filled.{done-accepted}
 use Rattle.layout.specs.declared.Shape.{Shape}
 use Rattle.layout.specs.declared.Row.{Row}
 use Rattle.layout.specs.declared.Row.the-variants.{Has, Unknown}
-use Rattle.layout.specs.Run.{isRun}
-use Rattle.writing.specs.Write.{Order, contentsIn, octetsOf, unfitOf, marks, exceeds, writtenOf}
+use Rattle.writing.specs.Write.{Order, writtenOf}
+use Rattle.writing.proofs.Taken.{written-taken}
 use Rattle.isup.specs.declared.Message.{Message}
 use Rattle.isup.specs.Table.{shapeOf}
 use Rattle.isup.specs.Read.{readOf}
@@ -27,18 +26,27 @@ use Rattle.isup.specs.Write.{orderOf, ofShape, writeIn, writeOf, againIn, compa
 use Rattle.isup.proofs.Exactly.{read-exactly}
 use Rattle.isup.proofs.Rewritten.{read-inside}
 use Rattle.number.specs.declared.Number.{Number}
-use Rattle.number.specs.Contents.{halfCount, oddBit, fillerIn, countIn, contentsOf}
+use Rattle.number.specs.Contents.{halfCount, oddBit, fillerIn, countIn, natureIn, internalIn, planIn}
 use Rattle.number.specs.Read.{readNumberOf, numberIn}
-use Rattle.number.specs.Write.{anyAbove15, measured, writeNumberOf, octetsOf as numberOctets}
-use Rattle.number.specs.Laws.{length-packed}
-use Rattle.hub.specs.Types.{IAM, REL, RSC, BLO, UBL, GRS}
-use Rattle.hub.specs.Asks.{width, askedIn, askOf}
-use Rattle.hub.specs.Replies.{replyOf, replyLength}
+use Rattle.number.specs.Write.{anyAbove15, writeNumberOf, numberOctets}
+use Rattle.number.proofs.Laws.{length-packed}
+use Rattle.rows.specs.declared.Act.{Act}
+use Rattle.rows.specs.declared.Act.the-variants.{Seize, Release, Reset, Block, Unblock, ResetGroup, BlockGroup, UnblockGroup}
+use Rattle.asks.proofs.Reading.{ask-sound}
+use Rattle.hub.specs.Tables.{Tables}
+use Rattle.hub.specs.Replies.{replyLength}
 use Rattle.hub.specs.Acts.{actOf}
-use Rattle.hub.proofs.Given.{ask-sound}
 use Rattle.hub.proofs.Writing.{length-reply}
 use Rattle.hub.proofs.Called.{call-accepted}
-use Rattle.llachurep.specs.Boundary.{Placed, Small}
+use Rattle.finding.specs.Find.{locateOf}
+use Rattle.finding.proofs.Spots.{located-says}
+use Rattle.octets.proofs.Filled.{done-accepted}
+use Rattle.llachurep.specs.Boundary.{Small, valuesOf, readGives, findGives}
+use Rattle.llachurep.proofs.Gives.{unplaced-accepted}
+
+-- an answer with what it leaves
+whole-done : {A : Type 0} {d : Done A} {a : A} → d .answer ≡ accepted a → d ≡ leaving (accepted a) (d .left)
+whole-done {A} {d} e = λ i. leaving (e i) (d .left)
 
 -- what is accepted with room was accepted before
 roomy : {A : Type 0} (buffer : List ℕ) (x : Answer (A × List ℕ)) {a : A} → done buffer (x then roomFor buffer) .answer ≡ accepted a → (octets : List ℕ) × (x ≡ accepted (a, octets))
@@ -51,17 +59,7 @@ roomy buffer (refused n at) e = absurd (refused-accepted e)
 
 -- a written message has 268 octets at the most
 order-small : (s : Shape) (o : Order) (n : ℕ) (octets : List ℕ) → writtenOf s 268 o ≡ accepted (n, octets) → n ≤ 268
-unfolding writtenOf
-order-small s o n octets e =
-    let a = past-test 10 0 (unfitOf s (o .fixed) (o .first) (o .second) (o .third) (o .run)) e in
-    ⊎-elim
-    (λ r.
-    let b = past-test 12 0 (exceeds (marks (s .opt) (contentsIn s o) (o .run))) (r .1) in
-    let c = past-test 2 0 (ltb 268 (length (octetsOf s o))) (b .1) in
-    let q = ap (λ (x : ℕ × List ℕ). x .0) (accepted-same (c .1)) in
-    omega (arith, ltb-false 268 (length (octetsOf s o)) (c .0)))
-    (λ r. absurd (refused-accepted (r .1)))
-    (chosen (isRun (o .run)) (a .1))
+order-small s o n octets e = let t = written-taken s 268 o n octets e in omega (arith, t .count, ap length (t .octets), t .short)
 
 shape-small : (r : Row) (o : Order) (n : ℕ) (octets : List ℕ) → ofShape r o ≡ accepted (n, octets) → n ≤ 268
 shape-small (Has s) o n octets e = order-small s o n octets e
@@ -94,6 +92,26 @@ read-small m x e =
     let w = read-exactly m x .0 e in
     ((i .0 .0, omega (arith, i .0 .1, w .most)), (i .1 .0, omega (arith, i .1 .1, w .most)), (i .2 .0, omega (arith, i .2 .1, w .most)), (i .4 .0, omega (arith, i .4 .1, w .most)))
 
+-- 10 numbers, where a message reads
+pub read-gives-small : (m parts : List ℕ) (n : ℕ) → readGives m parts .answer ≡ accepted n → n ≤ 65535
+unfolding readGives
+read-gives-small m parts n e =
+    let r = done-accepted parts (unplaced (readOf m) then λ x. roomFor parts (10, valuesOf x)) (whole-done e) in
+    let t = then-accepted (unplaced (readOf m)) (λ x. roomFor parts (10, valuesOf x)) (r .1) in
+    let u = past-test 13 0 (ltb (length parts) 10) (t .2) in
+    omega (arith, ap (λ (y : ℕ × List ℕ). y .0) (accepted-same (u .1)))
+
+-- 0 or 100, where a parameter is found
+pub find-gives-small : (m defaults : List ℕ) (name : ℕ) (stretch : List ℕ) (n : ℕ) → findGives m defaults name stretch .answer ≡ accepted n → n ≤ 65535
+unfolding findGives
+find-gives-small m defaults name stretch n e =
+    let r = done-accepted stretch (unplaced (locateOf m defaults name) then λ s. roomFor stretch (s .holder, s .start ∷ s .len ∷ [])) (whole-done e) in
+    let t = then-accepted (unplaced (locateOf m defaults name)) (λ s. roomFor stretch (s .holder, s .start ∷ s .len ∷ [])) (r .1) in
+    let u = past-test 13 0 (ltb (length stretch) 2) (t .2) in
+    let h = located-says m defaults name (t .0) (unplaced-accepted (locateOf m defaults name) (t .1)) in
+    let q = ap (λ (y : ℕ × List ℕ). y .0) (accepted-same (u .1)) in
+    ⊎-elim (λ y. omega (arith, y .0)) (λ y. omega (arith, y .0)) (h .2 .found)
+
 -- a number's signals, and its octets
 pub count-small : (contents buffer : List ℕ) (x : Number) → readNumberOf contents buffer .answer ≡ accepted x → x .count ≤ 30
 count-small contents buffer x e =
@@ -104,6 +122,24 @@ count-small contents buffer x e =
     let d = past-test 14 0 (ltb 30 (countIn contents)) (c .1) in
     let q = ap (λ (y : Number × List ℕ). y .0 .count) (accepted-same (d .1)) in
     omega (arith, ltb-false 30 (countIn contents) (d .0))
+
+-- what a number that was read says besides
+pub number-read-small : (contents buffer : List ℕ) (x : Number) → readNumberOf contents buffer .answer ≡ accepted x → (x .nature ≤ 127) × (x .internal ≤ 1) × (x .plan ≤ 7) × (x .count ≤ 30)
+number-read-small contents buffer x e =
+    let r = roomy buffer (numberIn contents) e in
+    let a = past-test 14 0 (ltb (length contents) 2) (r .1) in
+    let b = past-test 14 0 (ltb (halfCount contents) (oddBit contents)) (a .1) in
+    let c = past-test 14 0 (ltb 0 (fillerIn contents)) (b .1) in
+    let d = past-test 14 0 (ltb 30 (countIn contents)) (c .1) in
+    let q = accepted-same (d .1) in
+    let n : natureIn contents < 128 = mod-lt _ (omega arith) in
+    let i : internalIn contents < 2 = mod-lt _ (omega arith) in
+    let p : planIn contents < 8 = mod-lt _ (omega arith) in (
+      omega (arith, ap (λ (y : Number × List ℕ). y .0 .nature) q),
+      omega (arith, ap (λ (y : Number × List ℕ). y .0 .internal) q),
+      omega (arith, ap (λ (y : Number × List ℕ). y .0 .plan) q),
+      count-small contents buffer x e,
+    )
 
 pub number-small : (nature plan internal : ℕ) (signals buffer : List ℕ) (n : ℕ) → writeNumberOf nature plan internal signals buffer .answer ≡ accepted n → n ≤ 17
 number-small nature plan internal signals buffer n e =
@@ -117,22 +153,19 @@ number-small nature plan internal signals buffer n e =
     omega (arith, ltb-false 30 (length signals) (d .0), length-packed signals)
 
 -- the hub's answer
-reply-few : (kind range : ℕ) → range ≤ 255 → replyLength kind range ≤ 40
+reply-few : (act : Act) (range : ℕ) → range ≤ 255 → replyLength act range ≤ 40
 unfolding replyLength
-reply-few kind range h = go (eqb kind IAM) (eqb kind REL) (eqb kind RSC) (eqb kind BLO) (eqb kind UBL) (eqb kind GRS)
-  where
-    go : (a b c d e f : Bool) → (if a then 0 else (if b then 4 else (if c then 4 else (if d then 3 else (if e then 3 else (if f then 6 + width range else 7 + width range)))))) ≤ 40
-    go true b c d e f = omega arith
-    go false true c d e f = omega arith
-    go false false true d e f = omega arith
-    go false false false true e f = omega arith
-    go false false false false true f = omega arith
-    go false false false false false true = omega arith
-    go false false false false false false = omega arith
+reply-few Seize range h = omega arith
+reply-few Release range h = omega arith
+reply-few Reset range h = omega arith
+reply-few Block range h = omega arith
+reply-few Unblock range h = omega arith
+reply-few ResetGroup range h = omega arith
+reply-few BlockGroup range h = omega arith
+reply-few UnblockGroup range h = omega arith
 
-pub act-small : (states owners : List ℕ) (sender : ℕ) (m buffer : List ℕ) (n : ℕ) → AllOctets m → actOf states owners sender m buffer .answer ≡ accepted n → n ≤ 40
-unfolding askOf
-act-small states owners sender m buffer n o e =
-    let k = call-accepted states owners sender m buffer n e in
-    let s = ask-sound m (k .ask) o (ap (λ (x : Answer Message). x then askedIn m) (k .allowed .reads) ∙ k .allowed .asks) in
-    omega (arith, k .count, length-reply m (k .ask), reply-few (k .ask .kind) (k .ask .range) (s .few))
+pub act-small : (T : Tables) (sender : ℕ) (m buffer : List ℕ) (n : ℕ) → AllOctets m → actOf T sender m buffer .answer ≡ accepted n → n ≤ 40
+act-small T sender m buffer n o e =
+    let k = call-accepted T sender m buffer n e in
+    let s = ask-sound m (k .ask) o (k .allowed .asks) in
+    omega (arith, k .count, length-reply m (k .ask), reply-few (k .ask .act) (k .ask .range) (s .few))

@@ -1,14 +1,15 @@
 -- Answers as one number: 65536 * N + v, where N is the refusal's number, 0 for what is accepted, and v is what each function says.
-use Prim.Native.Nat.{ℕ, _+_, _*_, _-_, _≤_}
+use Prim.Native.Nat.{ℕ, _+_, _*_, _≤_}
 use mathlib.Core.List.{List, [], _∷_}
 use lib.Dec.{eqb}
 use Rattle.octets.specs.Choice.{if_then_else_}
 use Rattle.octets.specs.Answer.{Answer, accepted, refused, _then_, unplaced}
 use Rattle.octets.specs.Filled.{Done, done, roomFor}
 use Rattle.layout.specs.declared.Span.{Span}
+use Rattle.layout.specs.Spans.{spanSize}
 use Rattle.isup.specs.declared.Message.{Message}
 use Rattle.isup.specs.Read.{readOf}
-use Rattle.isup.specs.Find.{Spot, locateOf}
+use Rattle.finding.specs.Find.{locateOf}
 use Rattle.number.specs.declared.Number.{Number}
 use Rattle.hub.specs.Acts.{After}
 
@@ -22,15 +23,13 @@ pub record Given : Type 0 where
   pub value : ℕ
   pub left : List ℕ
 
+-- the two together
 abbrev pub given : ℕ → List ℕ → Given
 given value left = record { value = value; left = left }
 
+-- what a function that fills a lent buffer gives: its answer as one number, and the buffer
 abbrev pub givenBy : Done ℕ → Given
 givenBy d = given (packed (d .answer)) (d .left)
-
--- how many octets a span has
-abbrev pub size : Span → ℕ
-size s = s .to - s .from
 
 -- where the fixed part starts; 0 for a type that has none
 abbrev pub fixedStart : Span → ℕ
@@ -40,18 +39,19 @@ fixedStart s = if eqb (s .from) (s .to) then 0 else s .from
 abbrev pub valuesOf : Message → List ℕ
 valuesOf x =
     x .circuit ∷ x .kind
-    ∷ fixedStart (x .parts .fixed) ∷ size (x .parts .fixed)
-    ∷ x .parts .first .from ∷ size (x .parts .first)
-    ∷ x .parts .second .from ∷ size (x .parts .second)
-    ∷ x .parts .optional .from ∷ size (x .parts .optional)
+    ∷ fixedStart (x .parts .fixed) ∷ spanSize (x .parts .fixed)
+    ∷ x .parts .first .from ∷ spanSize (x .parts .first)
+    ∷ x .parts .second .from ∷ spanSize (x .parts .second)
+    ∷ x .parts .optional .from ∷ spanSize (x .parts .optional)
     ∷ []
 
 -- no part ends before it starts, or past what 16 bits hold
-abbrev pub Placed : Span → Type 0
-Placed s = (s .from ≤ s .to) × (s .to ≤ 65535)
+abbrev pub InSixteenBits : Span → Type 0
+InSixteenBits s = (s .from ≤ s .to) × (s .to ≤ 65535)
 
+-- all parts of a message are so
 abbrev pub Small : Message → Type 0
-Small x = Placed (x .parts .fixed) × Placed (x .parts .first) × Placed (x .parts .second) × Placed (x .parts .optional)
+Small x = InSixteenBits (x .parts .fixed) × InSixteenBits (x .parts .first) × InSixteenBits (x .parts .second) × InSixteenBits (x .parts .optional)
 
 -- reading: 10 numbers; the reader's numbers, then 13 where there is no room for them
 unfoldable pub readGives : List ℕ → List ℕ → Done ℕ
@@ -66,6 +66,7 @@ abbrev pub packedNumber : Answer Number → ℕ
 packedNumber (accepted x) = 65536 * x .nature + 4096 * x .internal + 256 * x .plan + x .count
 packedNumber (refused n at) = 4294967296 * n
 
+-- what reading a number gives: its answer as one number, and the buffer
 abbrev pub numberGiven : Done Number → Given
 numberGiven d = given (packedNumber (d .answer)) (d .left)
 
@@ -75,8 +76,10 @@ pub record Called : Type 0 where
   pub states : List ℕ
   pub buffer : List ℕ
 
+-- the three together
 abbrev pub called : ℕ → List ℕ → List ℕ → Called
 called value states buffer = record { value = value; states = states; buffer = buffer }
 
+-- what the hub gives: its answer as one number, and both lists
 abbrev pub calledBy : After → Called
 calledBy a = called (packed (a .answer)) (a .states) (a .buffer)

@@ -8,17 +8,17 @@ ghost use Rattle.octets.specs.Filled.{done, roomFor, filled};
 ghost use Rattle.isup.specs.Write.{writeOf, compactOf};
 ghost use Rattle.number.specs.Read.{readNumberOf};
 ghost use Rattle.number.specs.Write.{writeNumberOf};
+ghost use Rattle.hub.specs.Tables.{tables};
 ghost use Rattle.hub.specs.Acts.{actOf};
-ghost use Rattle.writing.specs.Told.{writtenTold};
-ghost use Rattle.llachurep.specs.Boundary.{packed, given, givenBy, size, fixedStart, valuesOf, Small, readGives, findGives, numberGiven, called, calledBy};
-use hub::Acted;
-use isup::Located;
+ghost use Rattle.octets.specs.Told.{writtenTold};
+ghost use Rattle.layout.specs.Spans.{spanSize};
+ghost use Rattle.llachurep.specs.Boundary.{packed, given, givenBy, fixedStart, valuesOf, Small, readGives, findGives, numberGiven, called, calledBy};
+use finding::Located;
 use isup::Message;
 use isup::Reading;
 use layout::Span;
 use number::NumberRead;
-use number::NumberWritten;
-use writing::Written;
+use octets::Written;
 
 // A refusal's number as an answer.
 fn refusal(number: u8) -> u32
@@ -30,7 +30,7 @@ fn refusal(number: u8) -> u32
 // How many octets a span has.
 fn size_of(span: Span) -> u16
     requires { ⌜ (span .from ≤ span .to) × (span .to ≤ 65535) ⌝ }
-    ensures { λ r. ⌜ r ≡ size span ⌝ }
+    ensures { λ r. ⌜ r ≡ spanSize span ⌝ }
 {
     (span.to - span.from) as u16
 }
@@ -84,14 +84,14 @@ pub extern "C" fn llachurep_read(message: &[u8], parts: &mut [u16]) -> u32
     }
 }
 
-// What writing answers, as one number.
+// What all that fill a lent buffer answer, as one number.
 fn written(answer: Written) -> u32
     requires { ⌜ ((n : ℕ) → writtenTold answer ≡ accepted n → n ≤ 65535) ⌝ }
     ensures { λ r. ⌜ r ≡ packed (writtenTold answer) ⌝ }
 {
     match answer {
         Written::Octets(n) => n as u32,
-        Written::Refused(n) => refusal(n),
+        Written::Refused(n, _) => refusal(n),
     }
 }
 
@@ -141,7 +141,7 @@ pub extern "C" fn llachurep_find(
 ) -> u32
     ensures { λ r. ⌜ given r (now (stretch .exit)) ≡ givenBy (findGives (now (message .entry)) (now (defaults .entry)) name (now (stretch .entry))) ⌝ }
 {
-    match isup::locate(message, defaults, name) {
+    match finding::locate(message, defaults, name) {
         Located::Message(at, len) => give_stretch(at, len, 0, stretch),
         Located::Defaults(at, len) => give_stretch(at, len, 100, stretch),
         Located::Refused(n, _) => refusal(n),
@@ -175,10 +175,7 @@ pub extern "C" fn llachurep_number_write(
 ) -> u32
     ensures { λ r. ⌜ given r (now (out .exit)) ≡ givenBy (writeNumberOf nature plan internal (now (signals .entry)) (now (out .entry))) ⌝ }
 {
-    match number::write_number(nature, plan, internal, signals, out) {
-        NumberWritten::Written(n) => n as u32,
-        NumberWritten::Refused(n) => refusal(n),
-    }
+    written(number::write_number(nature, plan, internal, signals, out))
 }
 
 // A message from a sender. Accepted: how many octets the answer has, at the front of `answer`; the named rows of `states` change. Refused with 16, the reader's numbers, 17, 14, 18, 19, 20, 21, 13.
@@ -191,10 +188,7 @@ pub extern "C" fn llachurep_act(
     answer: &mut [u8],
 ) -> u32
     ensures { λ r. ⌜ called r (now (states .exit)) (now (answer .exit)) ≡
-        calledBy (actOf (now (states .entry)) (now (owners .entry)) sender (now (message .entry)) (now (answer .entry))) ⌝ }
+        calledBy (actOf (tables (now (states .entry)) (now (owners .entry))) sender (now (message .entry)) (now (answer .entry))) ⌝ }
 {
-    match hub::act(states, owners, sender, message, answer) {
-        Acted::Answered(n) => n as u32,
-        Acted::Refused(n) => refusal(n),
-    }
+    written(hub::act(states, owners, sender, message, answer))
 }

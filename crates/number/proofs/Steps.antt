@@ -8,10 +8,10 @@ use borrow.Author.Tests.{lt-ltb, le-ltb}
 use lib.ListN.{length, getD, drop, set, drop-of-length-le}
 use lib.Seq.{drop-cons, sets}
 use denote.Ref.{RefT, now, at-last}
-use Rattle.number.specs.Halves.{octetOf, packed}
+use Rattle.number.specs.Halves.{halvesJoined, twoToAnOctet}
 use Rattle.number.specs.Contents.{countIn, signalsIn}
 use Rattle.number.specs.Write.{anyAbove15}
-use Rattle.number.specs.Laws.{length-signals}
+use Rattle.number.proofs.Laws.{length-signals}
 
 -- nothing is left to store
 pub sets-none : (l : List ℕ) (i k : ℕ) (xs : List ℕ) → length xs ≤ k → sets l i (drop k xs) ≡ l
@@ -31,23 +31,23 @@ read-more contents x k k′ v h e rest is =
     rest ∙ ap (at-last x) (sets-more (now x) k k′ k k′ v (signalsIn contents) (omega (arith, length-signals contents)) is e e)
 
 -- the next signal is taken for a low half
-pub write-taken : (signals : List ℕ) (x : RefT (List ℕ)) {y : RefT (List ℕ)} (i k k′ : ℕ) → k < length signals → k′ ≡ suc k → y ≡ at-last x (sets (now x) i (packed (getD signals k 0 ∷ drop k′ signals))) → y ≡ at-last x (sets (now x) i (packed (drop k signals)))
+pub write-taken : (signals : List ℕ) (x : RefT (List ℕ)) {y : RefT (List ℕ)} (i k k′ : ℕ) → k < length signals → k′ ≡ suc k → y ≡ at-last x (sets (now x) i (twoToAnOctet (getD signals k 0 ∷ drop k′ signals))) → y ≡ at-last x (sets (now x) i (twoToAnOctet (drop k signals)))
 write-taken signals x i k k′ h e q = rw (drop-cons signals k 0 h, ← e) q
 
 -- none is left to write
-pub write-none : (signals : List ℕ) (x : RefT (List ℕ)) (i k : ℕ) → length signals ≤ k → x ≡ at-last x (sets (now x) i (packed (drop k signals)))
-unfolding packed
+pub write-none : (signals : List ℕ) (x : RefT (List ℕ)) (i k : ℕ) → length signals ≤ k → x ≡ at-last x (sets (now x) i (twoToAnOctet (drop k signals)))
+unfolding twoToAnOctet
 write-none signals x i k h = rw (drop-of-length-le signals h)
 
 -- the last signal is written over filler 0
-pub write-last : (signals : List ℕ) (x : RefT (List ℕ)) (i k low : ℕ) → length signals ≤ k → at-last x (set (now x) i low) ≡ at-last x (sets (now x) i (packed (low ∷ drop k signals)))
-unfolding packed
+pub write-last : (signals : List ℕ) (x : RefT (List ℕ)) (i k low : ℕ) → length signals ≤ k → at-last x (set (now x) i low) ≡ at-last x (sets (now x) i (twoToAnOctet (low ∷ drop k signals)))
+unfolding twoToAnOctet
 write-last signals x i k low h =
     let e : low + 16 * 0 ≡ low = omega arith in rw (drop-of-length-le signals h, e)
 
 -- two signals are written as one octet, and then the rest
-pub write-both : (signals : List ℕ) (x : RefT (List ℕ)) {y : RefT (List ℕ)} (i i′ k k′ low v : ℕ) → k < length signals → i′ ≡ suc i → k′ ≡ suc k → y ≡ at-last x (sets (set (now x) i v) i′ (packed (drop k′ signals))) → v ≡ octetOf low (getD signals k 0) → y ≡ at-last x (sets (now x) i (packed (low ∷ drop k signals)))
-unfolding packed
+pub write-both : (signals : List ℕ) (x : RefT (List ℕ)) {y : RefT (List ℕ)} (i i′ k k′ low v : ℕ) → k < length signals → i′ ≡ suc i → k′ ≡ suc k → y ≡ at-last x (sets (set (now x) i v) i′ (twoToAnOctet (drop k′ signals))) → v ≡ halvesJoined low (getD signals k 0) → y ≡ at-last x (sets (now x) i (twoToAnOctet (low ∷ drop k signals)))
+unfolding twoToAnOctet
 write-both signals x i i′ k k′ low v h p q rest e = rest ∙ rw (drop-cons signals k 0 h, p, q, e)
 
 -- a signal above 15 is found

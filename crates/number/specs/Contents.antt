@@ -4,7 +4,7 @@ use mathlib.Core.List.{List, _∷_}
 use lib.Dec.{eqb}
 use lib.ListN.{getD, length, take, drop}
 use Rattle.octets.specs.Choice.{if_then_else_}
-use Rattle.number.specs.Halves.{highHalf, halves, packed}
+use Rattle.number.specs.Halves.{highHalf, halves, twoToAnOctet}
 
 -- bit 8 of an octet
 abbrev pub bit8 : ℕ → ℕ
@@ -55,6 +55,6 @@ abbrev pub secondOctet : ℕ → ℕ → ℕ
 secondOctet plan internal = 128 * internal + 16 * plan
 
 -- the contents to write
-abbrev pub contentsOf : ℕ → ℕ → ℕ → List ℕ → List ℕ
-contentsOf nature plan internal signals =
-    firstOctet nature (length signals) ∷ secondOctet plan internal ∷ packed signals
+abbrev pub codedAs : ℕ → ℕ → ℕ → List ℕ → List ℕ
+codedAs nature plan internal signals =
+    firstOctet nature (length signals) ∷ secondOctet plan internal ∷ twoToAnOctet signals

@@ -54,6 +54,6 @@ valuesFaults nature plan internal signals =
     ∷ []
 
 -- the faults of writing: those of the values and signals, then 13 for a buffer too short for two octets, one for each two signals, and one for a signal that is left over
-abbrev pub writeFaults : ℕ → ℕ → ℕ → List ℕ → List ℕ → List Fault
-writeFaults nature plan internal signals buffer =
+abbrev pub numberWriteFaults : ℕ → ℕ → ℕ → List ℕ → List ℕ → List Fault
+numberWriteFaults nature plan internal signals buffer =
     valuesFaults nature plan internal signals ++ (fault 13 0 (TooShort buffer (2 + (length signals + 1) / 2)) ∷ [])

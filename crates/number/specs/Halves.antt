@@ -11,8 +11,8 @@ abbrev pub highHalf : ℕ → ℕ
 highHalf octet = octet / 16
 
 -- the octet with these two halves
-abbrev pub octetOf : ℕ → ℕ → ℕ
-octetOf low high = low + 16 * high
+abbrev pub halvesJoined : ℕ → ℕ → ℕ
+halvesJoined low high = low + 16 * high
 
 -- the halves of the octets in order, low half first
 unfoldable pub halves : List ℕ → List ℕ
@@ -20,7 +20,7 @@ halves [] = []
 halves (octet ∷ octets) = lowHalf octet ∷ highHalf octet ∷ halves octets
 
 -- the signals two to an octet, low half first; an odd count leaves a high half as filler 0
-unfoldable pub packed : List ℕ → List ℕ
-packed [] = []
-packed (low ∷ []) = octetOf low 0 ∷ []
-packed (low ∷ high ∷ signals) = octetOf low high ∷ packed signals
+unfoldable pub twoToAnOctet : List ℕ → List ℕ
+twoToAnOctet [] = []
+twoToAnOctet (low ∷ []) = halvesJoined low 0 ∷ []
+twoToAnOctet (low ∷ high ∷ signals) = halvesJoined low high ∷ twoToAnOctet signals

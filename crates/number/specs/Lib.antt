@@ -4,12 +4,3 @@ pub mod Read
 pub mod Write
 pub mod WellFormed
 pub mod Faults
-pub mod Laws
-pub mod Reading
-pub mod Writing
-pub mod ReadExactly
-pub mod WriteExactly
-pub mod Judged
-pub mod Back
-pub mod Samples
-pub mod Determined

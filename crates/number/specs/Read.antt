@@ -5,11 +5,10 @@ use lib.Dec.{ltb}
 use lib.ListN.{length}
 use Rattle.octets.specs.Choice.{if_then_else_}
 use Rattle.octets.specs.Answer.{Answer, accepted, refused, _then_}
-use Rattle.octets.specs.Filled.{Done, done}
+use Rattle.octets.specs.Filled.{Done, done, roomFor}
 use Rattle.number.specs.declared.Number.{Number}
 use Rattle.number.specs.declared.NumberRead.{NumberRead}
 use Rattle.number.specs.declared.NumberRead.the-variants.{Read, Refused}
-use Rattle.octets.specs.Filled.{roomFor}
 use Rattle.number.specs.Contents.{oddBit, natureIn, internalIn, planIn, halfCount, countIn, fillerIn, signalsIn}
 
 -- the values that the contents have beside the signals

@@ -6,11 +6,24 @@ ghost use Prim.Native.Nat.{_+_, _*_, _/_, _≤_, _<_};
 ghost use lib.ListN.{length, drop};
 ghost use lib.Seq.{sets};
 ghost use denote.Ref.{at-last};
-ghost use Rattle.number.specs.Halves.{packed};
-ghost use Rattle.number.specs.Contents.{bit8, fillerIn, countIn, signalsIn};
 ghost use Rattle.octets.specs.Filled.{leaving};
+ghost use Rattle.octets.specs.Told.{writtenTold};
+ghost use Rattle.number.specs.Halves.{twoToAnOctet};
+ghost use Rattle.number.specs.Contents.{bit8, fillerIn, countIn, signalsIn};
 ghost use Rattle.number.specs.Read.{readAnswer, readNumberOf};
-ghost use Rattle.number.specs.Write.{anyAbove15, writeAnswer, writeNumberOf};
+ghost use Rattle.number.specs.Write.{anyAbove15, writeNumberOf};
+use octets::Written;
+
+// How many signals a number has at the most.
+const MOST_SIGNALS: usize = 30;
+// The largest address signal.
+const LARGEST_SIGNAL: u8 = 15;
+// The largest nature of address.
+const LARGEST_NATURE: u32 = 127;
+// The largest numbering plan.
+const LARGEST_PLAN: u32 = 7;
+// The largest internal network bit.
+const LARGEST_INTERNAL: u32 = 1;
 
 // What a number has beside its signals: nature of address, numbering plan, internal network bit, and how many signals there are.
 pub struct Number {
@@ -23,12 +36,6 @@ pub struct Number {
 // What reading answers: the values, or the number of the refusal.
 pub enum NumberRead {
     Read(Number),
-    Refused(u8),
-}
-
-// What writing answers: how many octets were written, or the number of the refusal.
-pub enum NumberWritten {
-    Written(usize),
     Refused(u8),
 }
 
@@ -97,15 +104,13 @@ pub fn read_number(contents: &[u8], signals: &mut [u8]) -> NumberRead
     let halves = 2 * (contents.len() - 2);
     if halves < odd {
         return NumberRead::Refused(14);
-    }
-    if filler(contents) > 0 {
+    } else if filler(contents) > 0 {
         return NumberRead::Refused(14);
     }
     let count = halves - odd;
-    if count > 30 {
+    if count > MOST_SIGNALS {
         return NumberRead::Refused(14);
-    }
-    if signals.len() < count {
+    } else if signals.len() < count {
         return NumberRead::Refused(13);
     }
     read_signals(&contents, signals, count);
@@ -123,7 +128,7 @@ fn any_above_15(signals: &[u8]) -> bool
 {
     let mut i = 0;
     while i < signals.len() {
-        if signals[i] > 15 {
+        if signals[i] > LARGEST_SIGNAL {
             return true;
         }
         i += 1;
@@ -134,7 +139,7 @@ fn any_above_15(signals: &[u8]) -> bool
 // Takes the signal for the low half of octet `at` of the signals, and hands it on to the high half, until no signal is left; leaves octet `at` and those after it written.
 fn write_low(signals: &&[u8], out: &mut &mut [u8], at: usize, left: usize)
     requires { ⌜ (2 * at + left ≡ length (now (now signals))) × (length (now (now signals)) ≤ 30) × (anyAbove15 (now (now signals)) ≡ false) × (2 + (length (now (now signals)) + 1) / 2 ≤ length (now (now out))) ⌝ }
-    ensures { λ _. ⌜ now (out .exit) ≡ at-last (now (out .entry)) (sets (now (now (out .entry))) (at + 2) (packed (drop (2 * at) (now (now (signals .entry)))))) ⌝ }
+    ensures { λ _. ⌜ now (out .exit) ≡ at-last (now (out .entry)) (sets (now (now (out .entry))) (at + 2) (twoToAnOctet (drop (2 * at) (now (now (signals .entry)))))) ⌝ }
 {
     if left == 0 {
         return;
@@ -145,7 +150,7 @@ fn write_low(signals: &&[u8], out: &mut &mut [u8], at: usize, left: usize)
 // Writes octet `at` of the signals, `low` in its low half and the next signal in its high half, or filler 0 where no signal is left, and hands on to the low half of the next octet; leaves octet `at` and those after it written.
 fn write_high(signals: &&[u8], out: &mut &mut [u8], at: usize, left: usize, low: u8)
     requires { ⌜ (2 * at + 1 + left ≡ length (now (now signals))) × (length (now (now signals)) ≤ 30) × (anyAbove15 (now (now signals)) ≡ false) × (2 + (length (now (now signals)) + 1) / 2 ≤ length (now (now out))) × (low ≤ 15) ⌝ }
-    ensures { λ _. ⌜ now (out .exit) ≡ at-last (now (out .entry)) (sets (now (now (out .entry))) (at + 2) (packed (low ∷ drop (2 * at + 1) (now (now (signals .entry)))))) ⌝ }
+    ensures { λ _. ⌜ now (out .exit) ≡ at-last (now (out .entry)) (sets (now (now (out .entry))) (at + 2) (twoToAnOctet (low ∷ drop (2 * at + 1) (now (now (signals .entry)))))) ⌝ }
 {
     if left == 0 {
         out[at + 2] = low;
@@ -158,7 +163,7 @@ fn write_high(signals: &&[u8], out: &mut &mut [u8], at: usize, left: usize, low:
 // Writes all signals, the low half of the first octet first: lends its buffer to the steps, and leaves their octets after the first two of `out`.
 fn write_signals(signals: &&[u8], mut out: &mut [u8], count: usize)
     requires { ⌜ (count ≡ length (now (now signals))) × (length (now (now signals)) ≤ 30) × (anyAbove15 (now (now signals)) ≡ false) × (2 + (length (now (now signals)) + 1) / 2 ≤ length (now out)) ⌝ }
-    ensures { λ _. ⌜ now (out .exit) ≡ sets (now (out .entry)) 2 (packed (now (now (signals .entry)))) ⌝ }
+    ensures { λ _. ⌜ now (out .exit) ≡ sets (now (out .entry)) 2 (twoToAnOctet (now (now (signals .entry)))) ⌝ }
 {
     write_low(signals, &mut out, 0, count);
 }
@@ -171,31 +176,27 @@ pub fn write_number(
     internal: u32,
     signals: &[u8],
     out: &mut [u8],
-) -> NumberWritten
-    ensures { λ r. ⌜ leaving (writeAnswer r) (now (out .exit)) ≡ writeNumberOf nature plan internal (now (signals .entry)) (now (out .entry)) ⌝ }
+) -> Written
+    ensures { λ r. ⌜ leaving (writtenTold r) (now (out .exit)) ≡ writeNumberOf nature plan internal (now (signals .entry)) (now (out .entry)) ⌝ }
 {
-    if nature > 127 {
-        return NumberWritten::Refused(14);
-    }
-    if plan > 7 {
-        return NumberWritten::Refused(14);
-    }
-    if internal > 1 {
-        return NumberWritten::Refused(14);
-    }
-    if signals.len() > 30 {
-        return NumberWritten::Refused(14);
-    }
-    if any_above_15(signals) {
-        return NumberWritten::Refused(14);
+    if nature > LARGEST_NATURE {
+        return Written::Refused(14, 0);
+    } else if plan > LARGEST_PLAN {
+        return Written::Refused(14, 0);
+    } else if internal > LARGEST_INTERNAL {
+        return Written::Refused(14, 0);
+    } else if signals.len() > MOST_SIGNALS {
+        return Written::Refused(14, 0);
+    } else if any_above_15(signals) {
+        return Written::Refused(14, 0);
     }
     let count = signals.len();
     let length = 2 + (count + 1) / 2;
     if out.len() < length {
-        return NumberWritten::Refused(13);
+        return Written::Refused(13, 0);
     }
     out[0] = 128 * ((count % 2) as u8) + nature as u8;
     out[1] = 128 * (internal as u8) + 16 * (plan as u8);
     write_signals(&signals, out, count);
-    NumberWritten::Written(length)
+    Written::Octets(length)
 }

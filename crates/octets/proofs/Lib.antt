@@ -6,3 +6,7 @@ pub mod Faults
 pub mod Stretch
 pub mod Filled
 pub mod Counting
+pub mod Applied
+pub mod Among
+pub mod Told
+pub mod Parity

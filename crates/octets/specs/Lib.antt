@@ -4,3 +4,6 @@ pub mod Answer
 pub mod Faults
 pub mod Stretch
 pub mod Filled
+pub mod Applied
+pub mod Among
+pub mod Told

@@ -3,7 +3,6 @@ use Prim.Native.Nat.{ℕ}
 use mathlib.Core.Path.{_≡_}
 use mathlib.Core.List.{List}
 use Rattle.octets.proofs.Answer.{one-answer}
-use Rattle.words.specs.Words.{octetsOf}
 use Rattle.printing.specs.Sheet.{Sheet, sheet, put, pour}
 use Rattle.printing.specs.Shown.{decimalOf, hexOf}
 use Rattle.printing.proofs.Pours.{sheet-one}
@@ -27,7 +26,3 @@ put-number-determined number out at = one-sheet
 -- of putting octets
 pub put-octets-determined : (octets out : List ℕ) (at : ℕ) {left rest : List ℕ} {r q : ℕ} → sheet left r ≡ pour (sheet out at) (hexOf octets) → sheet rest q ≡ pour (sheet out at) (hexOf octets) → (left ≡ rest) × (r ≡ q)
 put-octets-determined octets out at = one-sheet
-
--- of putting the octets of a word
-pub put-word-determined : (word out : List ℕ) {left rest : List ℕ} {r q : ℕ} → sheet left r ≡ pour (sheet out 0) (octetsOf word) → sheet rest q ≡ pour (sheet out 0) (octetsOf word) → (left ≡ rest) × (r ≡ q)
-put-word-determined word out = one-sheet

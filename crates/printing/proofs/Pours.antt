@@ -1,5 +1,5 @@
 -- Laws of a buffer that is filled from the left, and one turn of each loop that fills it.
-use Prim.Native.Nat.{ℕ, zero, suc, _+_, _*_, _/_, _%_, _<_, _≤_}
+use Prim.Native.Nat.{ℕ, zero, suc, _+_, _/_, _%_, _<_, _≤_}
 use mathlib.Core.Path.{_≡_, refl, _∙_, ap}
 use mathlib.Core.Bool.{Bool, true, false}
 use mathlib.Core.List.{List, [], _∷_, _++_}
@@ -8,11 +8,10 @@ use native.Mathlib.Numerals.{add-one}
 use native.Mathlib.Nat.{add-zero, zero-add}
 use borrow.Author.Tests.{lt-ltb, le-ltb, eq-eqb, ne-eqb}
 use lib.Dec.{ltb}
-use lib.ListN.{length, getD, take, drop, set, length-set, length-drop, drop-of-length-le}
+use lib.ListN.{length, getD, take, drop, set, length-set, drop-of-length-le}
 use lib.Seq.{drop-cons, sets}
 use Rattle.octets.specs.Choice.{if_then_else_}
 use Rattle.octets.proofs.Filled.{sets-filled, take-filled}
-use Rattle.words.specs.Digits.{valueOf}
 use Rattle.words.specs.Words.{pairsOf, octetsOf}
 use Rattle.printing.specs.Sheet.{Sheet, sheet, put, pour}
 use Rattle.printing.specs.Shown.{digitOf, hexPairs, hexOf, decimalIn}
@@ -112,29 +111,6 @@ hex-done s xs i h = rw (drop-of-length-le xs h)
 pub hex-next : (s s′ s″ : Sheet) (xs : List ℕ) (i i′ high low : ℕ) → i < length xs → i′ ≡ suc i → high ≡ digitOf (getD xs i 0 / 16) → low ≡ digitOf (getD xs i 0 % 16) → s′ ≡ put s high → s″ ≡ put s′ low → pour s″ (hexPairs (drop i′ xs)) ≡ pour s (hexPairs (drop i xs))
 unfolding pour hexPairs
 hex-next s s′ s″ xs i i′ high low h e f g p q = rw (drop-cons xs i 0 h, e, q, p, f, g)
-
--- fewer than two digits stand for nothing
-pairs-short : (xs : List ℕ) → length xs ≤ 1 → pairsOf xs ≡ []
-unfolding pairsOf
-pairs-short [] h = refl
-pairs-short (a ∷ []) h = refl
-pairs-short (a ∷ b ∷ xs) h = absurd (omega arith)
-
--- no two digits are left
-pub pairs-done : (s : Sheet) (xs : List ℕ) (i : ℕ) → length xs ≤ i + 1 → pour s (pairsOf (drop i xs)) ≡ s
-unfolding pour
-pairs-done s xs i h = rw (pairs-short (drop i xs) (omega (arith, length-drop i xs)))
-
--- the octet of two digits is put, and then the rest
-pub pairs-next : (s s′ : Sheet) (xs : List ℕ) (i i′ high low : ℕ) → i + 1 < length xs → i′ ≡ suc (suc i) → high ≡ valueOf (getD xs i 0) → low ≡ valueOf (getD xs (i + 1) 0) → s′ ≡ put s ((16 * high + low) % 256) → pour s′ (pairsOf (drop i′ xs)) ≡ pour s (pairsOf (drop i xs))
-unfolding pour pairsOf
-pairs-next s s′ xs i i′ high low h e f g p =
-    rw (drop-cons xs i 0 (omega arith), drop-cons xs (suc i) 0 (omega arith), e, p, f, g, add-one)
-
--- a word of one octet stands for nothing
-pub octets-one : (s : Sheet) (word : List ℕ) → length word ≡ 1 → pour s (octetsOf word) ≡ s
-unfolding pour octetsOf
-octets-one s word h = rw (eq-eqb (length word) 1 h)
 
 -- another word stands for the octets of its digits
 pub octets-more : (word : List ℕ) → (length word ≡ 1 → ⊥) → octetsOf word ≡ pairsOf word

@@ -69,14 +69,14 @@ pairs-read (x ∷ xs) h =
     rw (digit-reads (x / 16) (omega arith), digit-reads (x % 16) (omega arith), e, pairs-read xs (λ i. h (suc i)))
 
 -- octets that are shown are a word of octets, and stand for the same
-pub octets-read-back : (xs : List ℕ) → AllOctets xs → length xs ≤ 1024 → (areOctets (hexOf xs) ≡ true) × (octetsOf (hexOf xs) ≡ xs)
+pub octets-read-back : (most : ℕ) (xs : List ℕ) → AllOctets xs → length xs ≤ most → (areOctets most (hexOf xs) ≡ true) × (octetsOf (hexOf xs) ≡ xs)
 unfolding hexOf areOctets octetsOf
-octets-read-back [] h l = (refl, refl)
-octets-read-back (x ∷ xs) h l =
+octets-read-back most [] h l = (refl, refl)
+octets-read-back most (x ∷ xs) h l =
     let w = hexPairs (x ∷ xs) in
     let n : length w ≡ 2 * length (x ∷ xs) = length-pairs (x ∷ xs) in
     let e = hex-some (x ∷ xs) (λ z. omega arith) in
-    (ap areOctets e ∙ rw (ne-eqb (length w) 1 (λ z. omega arith), ne-eqb (length w) 0 (λ z. omega arith), le-ltb 2048 (length w) (omega arith), ne-eqb (length w % 2) 1 (λ z. omega arith)) (all-digits (x ∷ xs) h), ap octetsOf e ∙ octets-more w (λ z. omega arith) ∙ pairs-read (x ∷ xs) h)
+    (ap (areOctets most) e ∙ rw (ne-eqb (length w) 1 (λ z. omega arith), ne-eqb (length w) 0 (λ z. omega arith), le-ltb most (length w / 2) (omega arith), ne-eqb (length w % 2) 1 (λ z. omega arith)) (all-digits (x ∷ xs) h), ap octetsOf e ∙ octets-more w (λ z. omega arith) ∙ pairs-read (x ∷ xs) h)
 
 -- a digit goes on to ten times the number, and the digit
 digit-next : (most v d n : ℕ) (cs : List ℕ) → d < 10 → n ≡ 10 * v + d → n ≤ most → digitsFrom most v ((48 + d) ∷ cs) ≡ digitsFrom most n cs

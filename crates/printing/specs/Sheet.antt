@@ -10,6 +10,7 @@ pub record Sheet : Type 0 where
   pub octets : List ℕ
   pub at : ℕ
 
+-- both
 abbrev pub sheet : List ℕ → ℕ → Sheet
 sheet octets at = record { octets = octets; at = at }
 

@@ -1,7 +1,6 @@
-// A line of an answer, put together in a lent buffer: texts, numbers in decimal digits, octets in hexadecimal ones. And the way back: the octets of a word.
+// A line of an answer, put together in a lent buffer: texts, numbers in decimal digits, octets in hexadecimal ones.
 ghost use mathlib.Core.Path.{_≡_};
 ghost use Prim.Native.Nat.{_<_};
-ghost use Rattle.words.specs.Words.{octetsOf};
 ghost use Rattle.printing.specs.Sheet.{sheet, put, pour};
 ghost use Rattle.printing.specs.Shown.{digitOf, decimalIn, decimalOf, hexOf};
 
@@ -75,24 +74,6 @@ pub fn put_octets(octets: &[u8], out: &mut [u8], at: usize) -> usize
         next = put_octet(digit(octet / 16), out, next);
         next = put_octet(digit(octet % 16), out, next);
         i += 1;
-    }
-    next
-}
-
-// Puts the octets that a word stands for at the buffer's front, and answers how many were put.
-pub fn put_word(word: &[u8], out: &mut [u8]) -> usize
-    ensures { λ r. ⌜ sheet (now (out .exit)) r ≡ pour (sheet (now (out .entry)) 0) (octetsOf (now (word .entry))) ⌝ }
-{
-    if word.len() == 1 {
-        return 0;
-    }
-    let mut next = 0;
-    let mut i = 0;
-    while i + 1 < word.len() {
-        let high = words::value(word[i]) as u16;
-        let low = words::value(word[i + 1]) as u16;
-        next = put_octet(((16 * high + low) % 256) as u8, out, next);
-        i += 2;
     }
     next
 }

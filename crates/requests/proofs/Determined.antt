@@ -1,11 +1,11 @@
--- Any two answers that the public function's contract allows are equal.
+-- Any two outcomes that the public function's contract allows are equal.
+use mathlib.Core.Path.{_≡_, ap}
 use Prim.Native.Nat.{ℕ}
-use mathlib.Core.Path.{_≡_}
 use mathlib.Core.List.{List}
 use Rattle.octets.proofs.Answer.{one-answer}
 use Rattle.requests.specs.declared.Request.{Request}
-use Rattle.requests.specs.Requests.{requestOf, Sound}
+use Rattle.requests.specs.Along.{Asking, taken, requestOf}
 
--- what a line asks
-pub request-of-determined : (line : List ℕ) (r s : Request) → (r ≡ requestOf line) × Sound line r → (s ≡ requestOf line) × Sound line s → r ≡ s
-request-of-determined line r s p q = one-answer (p .0) (q .0)
+-- what a line asks, and the scratch
+pub request-of-determined : (line scratch : List ℕ) {r s : Request} {left rest : List ℕ} → taken r left ≡ requestOf line scratch → taken s rest ≡ requestOf line scratch → (r ≡ s) × (left ≡ rest)
+request-of-determined line scratch p q = let e = one-answer p q in (ap (λ (t : Asking). t .request) e, ap (λ (t : Asking). t .left) e)

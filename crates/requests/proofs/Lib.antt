@@ -1,5 +1,8 @@
-pub mod Fields
-pub mod Asked
-pub mod Formed
+pub mod Steps
+pub mod Keys
+pub mod Found
+pub mod Agree
+pub mod Sound
+pub mod Said
 pub mod Determined
 pub mod Refutations

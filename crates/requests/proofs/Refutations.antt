@@ -1,18 +1,61 @@
--- Wrong programs, each refuted on one line: what it takes for a request is none.
+-- Wrong programs, each refuted on one line: what it takes is not what the definition says, which stands here.
 use mathlib.Core.Path.{_≡_, refl}
+use mathlib.Core.List.{[], _∷_}
 use Rattle.words.specs.Said.{said}
 use Rattle.words.specs.Digits.{valueOf}
-use Rattle.words.specs.Words.{wordLength, same, digitsFrom, numberOf, allDigits, octetOf, areOctets}
-use Rattle.requests.specs.declared.Request.the-variants.{Bad}
-use Rattle.requests.specs.Fields.{numberField, octetField, octetsField}
-use Rattle.requests.specs.Requests.{readRequest, writeRequest, askedBy, requestOf}
+use Rattle.words.specs.Words.{same, digitsFrom, numberOf, allDigits, octetOf, areOctets, pairsOf, octetsOf}
+use Rattle.requests.specs.Kinds.{fieldSays}
+use Rattle.requests.specs.Table.{mostOf, kindOf}
+use Rattle.requests.specs.Rows.{FIND, DIAL, ROWS}
+use Rattle.requests.specs.Words.{lettered, wordsOf, wordsSay, asking, nothing, askedBy, askedByTable, askedOf}
+
+-- a sender of 256, which a circuit may be
+pub limit-refuted : askedOf (said "own 3 9 256") ≡ nothing
+unfolding askedOf askedByTable askedBy wordsOf lettered same wordsSay kindOf mostOf numberOf digitsFrom valueOf
+limit-refuted = refl
 
 -- a room of 1025
-pub room-1025-refuted : requestOf (said "write 1 13 - - - - 1025") ≡ Bad
-unfolding valueOf wordLength same digitsFrom numberOf allDigits octetOf areOctets numberField octetField octetsField writeRequest askedBy requestOf
+pub room-1025-refuted : askedOf (said "compact - 1025") ≡ nothing
+unfolding askedOf askedByTable askedBy wordsOf lettered same wordsSay kindOf mostOf areOctets octetsOf numberOf digitsFrom valueOf
 room-1025-refuted = refl
 
--- a word left over at the end
-pub words-left-refuted : requestOf (said "read 00 00") ≡ Bad
-unfolding valueOf wordLength same digitsFrom numberOf allDigits octetOf areOctets numberField octetField octetsField readRequest askedBy requestOf
+-- a word that ends as a request's does, and one that begins one
+pub letter-refuted : askedOf (said "xhape 01") ≡ nothing
+unfolding askedOf askedByTable askedBy wordsOf lettered same
+letter-refuted = refl
+
+pub prefix-refuted : askedOf (said "row 3 9") ≡ nothing
+unfolding askedOf askedByTable askedBy wordsOf lettered same
+prefix-refuted = refl
+
+-- a word left, and one that is missing
+pub words-left-refuted : askedOf (said "read 00 00") ≡ nothing
+unfolding askedOf askedByTable askedBy wordsOf lettered same wordsSay kindOf areOctets octetsOf allDigits pairsOf valueOf
 words-left-refuted = refl
+
+pub missing-refuted : askedOf (said "rows 3") ≡ nothing
+unfolding askedOf askedByTable askedBy wordsOf lettered same wordsSay kindOf mostOf numberOf digitsFrom valueOf
+missing-refuted = refl
+
+-- the last of a span before its first
+pub order-refuted : askedOf (said "rows 9 3") ≡ nothing
+unfolding askedOf askedByTable askedBy wordsOf lettered same wordsSay kindOf mostOf numberOf digitsFrom valueOf
+order-refuted = refl
+
+-- two lines that ask something, and one with a space at its end
+pub rows-asked : askedOf (said "rows 3 9") ≡ asking ROWS (fieldSays 3 [] ∷ fieldSays 9 [] ∷ [])
+unfolding askedOf askedByTable askedBy wordsOf lettered same wordsSay kindOf mostOf numberOf digitsFrom valueOf
+rows-asked = refl
+
+pub find-asked : askedOf (said "find 12 0a -") ≡ asking FIND (fieldSays 18 [] ∷ fieldSays 0 (10 ∷ []) ∷ fieldSays 0 [] ∷ [])
+unfolding askedOf askedByTable askedBy wordsOf lettered same wordsSay kindOf mostOf octetOf areOctets allDigits valueOf octetsOf pairsOf
+find-asked = refl
+
+pub space-refuted : askedOf (said "find 12 0a - ") ≡ nothing
+unfolding askedOf askedByTable askedBy wordsOf lettered same wordsSay kindOf mostOf octetOf areOctets allDigits valueOf octetsOf pairsOf
+space-refuted = refl
+
+-- a nature of 1025, which a number of any size may be
+pub nature-asked : askedOf (said "dial 1025 0 0 - 0") ≡ asking DIAL (fieldSays 1025 [] ∷ fieldSays 0 [] ∷ fieldSays 0 [] ∷ fieldSays 0 [] ∷ fieldSays 0 [] ∷ [])
+unfolding askedOf askedByTable askedBy wordsOf lettered same wordsSay kindOf mostOf areOctets octetsOf numberOf digitsFrom valueOf
+nature-asked = refl

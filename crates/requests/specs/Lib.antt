@@ -1,3 +1,6 @@
-pub mod Fields
-pub mod Requests
-pub mod Forms
+pub mod Kinds
+pub mod Table
+pub mod Rows
+pub mod Words
+pub mod Along
+pub mod Inside

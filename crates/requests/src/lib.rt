@@ -1,298 +1,337 @@
-// What a line asks of the desk: its request, or that it is none.
+// What a line asks of the desk, by a table of forms: a row for each request, with its word and the kinds of its fields.
 ghost use mathlib.Core.Path.{_≡_};
 ghost use Prim.Native.Nat.{_≤_};
-ghost use lib.ListN.{length};
-ghost use Rattle.requests.specs.Fields.{numberField, octetField, octetsField, Follows, Holds};
-ghost use Rattle.requests.specs.Requests.{shapeRequest, readRequest, writeRequest, compactRequest, findRequest, numberRequest, dialRequest, tableRequest, actRequest, rowsRequest, requestOf, Sound};
+ghost use Rattle.words.specs.Into.{entry};
+ghost use Rattle.requests.specs.Kinds.{notBelow};
+ghost use Rattle.requests.specs.Table.{mostOf, kindOf, forms};
+ghost use Rattle.requests.specs.Along.{noField, bad, entered, placed, fieldsOf, taken, takenBy, requestOf};
+ghost use Rattle.requests.specs.Inside.{letterOf, keyOf, kindsIn, rowIn};
 use words::Number;
 
-// A field of a line: the number that it stands for, and where it begins and ends. It ends past every line where it is not there or breaks its rule.
+// A field of a line: the number that it stands for, and where its octets stand in the scratch.
 pub struct Field {
     pub value: u32,
+    pub count: u32,
     pub from: usize,
-    pub to: usize,
 }
 
-// What a line asks. Octets stand as the field that has their digits.
-pub enum Request {
-    Shape(u8),
-    Read(Field),
-    Write(u32, u32, Field, Field, Field, Field, usize),
-    Compact(Field, usize),
-    Find(u32, Field, Field),
-    Number(Field, usize),
-    Dial(u32, u32, u32, Field, usize),
-    Own(usize, usize, u8),
-    Set(usize, usize, u8),
-    Act(u32, Field, usize),
-    Rows(usize, usize),
-    Bad,
+// What a line asks: a row of the table, and a field for each of its kinds.
+pub struct Request {
+    pub which: usize,
+    pub fields: [Field; 8],
 }
 
-const ANY: u32 = 4294967295;
+// The rows of the table by name, written by tools/forms.
 
-// The field that is not there.
+// shape TYPE
+pub const SHAPE: usize = 0;
+
+// read MESSAGE
+pub const READ: usize = 1;
+
+// write CIRCUIT TYPE FIXED FIRST SECOND OPTIONAL ROOM
+pub const WRITE: usize = 2;
+
+// compact MESSAGE ROOM
+pub const COMPACT: usize = 3;
+
+// find NAME MESSAGE DEFAULTS
+pub const FIND: usize = 4;
+
+// number CONTENTS ROOM
+pub const NUMBER: usize = 5;
+
+// dial NATURE PLAN INTERNAL SIGNALS ROOM
+pub const DIAL: usize = 6;
+
+// own FIRST LAST SENDER
+pub const OWN: usize = 7;
+
+// set FIRST LAST STATE
+pub const SET: usize = 8;
+
+// rows FIRST LAST
+pub const ROWS: usize = 9;
+
+// act SENDER MESSAGE ROOM
+pub const ACT: usize = 10;
+
+// A line that is no request.
+pub const BAD: usize = 255;
+
+// The octets of a line, at the most.
+const LINE_MOST: usize = 8192;
+
+// The fields of a request, at the most.
+const FIELDS_MOST: usize = 8;
+
+// Any number of 32 bits.
+const ANY_MOST: u32 = 4294967295;
+
+// The last circuit.
+const CIRCUIT_MOST: u32 = 4095;
+
+// The largest number of one octet.
+const OCTET_MOST: u32 = 255;
+
+// The octets of answer buffer that a line may lend, at the most.
+const ROOM_MOST: u32 = 1024;
+
+// The octets of one field, at the most.
+const OCTETS_MOST: u32 = 1024;
+
+// The letters of a word that has a number, at the most.
+const WORD_MOST: usize = 12;
+
+// A row of the table: its number, and a letter for the kind of each field, the first letter in the lowest octet.
+struct Row {
+    which: usize,
+    letters: u64,
+}
+
+// A field that a form does not have.
 fn nowhere() -> Field
-    ensures { λ r. ⌜ r ≡ record { value = 0; from = 0; to = 8193 } ⌝ }
+    ensures { λ r. ⌜ r ≡ noField ⌝ }
 {
     Field {
         value: 0,
+        count: 0,
         from: 0,
-        to: 8193,
     }
 }
 
-// The field after the word that ends at `at`: a number up to `most`.
-fn number_field(line: &[u8], at: usize, most: u32) -> Field
-    requires { ⌜ length (now line) ≤ 8192 ⌝ }
-    ensures { λ r. ⌜ (r ≡ numberField (now (line .entry)) at most) × (r .value ≤ most) × Follows (now (line .entry)) at r ⌝ }
+// The request that a bad line is.
+fn none() -> Request
+    ensures { λ r. ⌜ r ≡ bad ⌝ }
 {
-    if line.len() <= at {
-        return nowhere();
-    }
-    let from = at + 1;
-    let to = words::word_end(line, from);
-    match words::number_of(&line[from..to], most) {
-        Number::Is(value) => Field { value, from, to },
-        Number::Not => nowhere(),
+    Request {
+        which: BAD,
+        fields: [nowhere(); FIELDS_MOST],
     }
 }
 
-// The field after the word that ends at `at`: one octet.
-fn octet_field(line: &[u8], at: usize) -> Field
-    requires { ⌜ length (now line) ≤ 8192 ⌝ }
-    ensures { λ r. ⌜ (r ≡ octetField (now (line .entry)) at) × (r .value ≤ 255) × Follows (now (line .entry)) at r ⌝ }
+// The limit of a number's kind.
+fn most(letter: u8) -> u32
+    ensures { λ r. ⌜ r ≡ mostOf letter ⌝ }
 {
-    if line.len() <= at {
-        return nowhere();
+    if letter == b'c' {
+        return CIRCUIT_MOST;
     }
-    let from = at + 1;
-    let to = words::word_end(line, from);
-    match words::octet_of(&line[from..to]) {
-        Number::Is(value) => Field { value, from, to },
-        Number::Not => nowhere(),
+    if letter == b'v' {
+        return OCTET_MOST;
     }
+    if letter == b'r' {
+        return ROOM_MOST;
+    }
+    ANY_MOST
 }
 
-// The field after the word that ends at `at`: octets.
-fn octets_field(line: &[u8], at: usize) -> Field
-    requires { ⌜ length (now line) ≤ 8192 ⌝ }
-    ensures { λ r. ⌜ (r ≡ octetsField (now (line .entry)) at) × Follows (now (line .entry)) at r × Holds (now (line .entry)) r ⌝ }
+// A number that is not below another.
+fn not_below(least: u32, number: Number) -> Number
+    ensures { λ r. ⌜ r ≡ notBelow least number ⌝ }
 {
-    if line.len() <= at {
-        return nowhere();
-    }
-    let from = at + 1;
-    let to = words::word_end(line, from);
-    if words::are_octets(&line[from..to]) {
-        return Field { value: 0, from, to };
-    }
-    nowhere()
-}
-
-// shape TYPE
-fn shape_request(line: &[u8], at: usize) -> Request
-    requires { ⌜ length (now line) ≤ 8192 ⌝ }
-    ensures { λ r. ⌜ (r ≡ shapeRequest (now (line .entry)) at) × Sound (now (line .entry)) r ⌝ }
-{
-    let kind = octet_field(line, at);
-    if kind.to == line.len() {
-        return Request::Shape(kind.value as u8);
-    }
-    Request::Bad
-}
-
-// read MESSAGE
-fn read_request(line: &[u8], at: usize) -> Request
-    requires { ⌜ length (now line) ≤ 8192 ⌝ }
-    ensures { λ r. ⌜ (r ≡ readRequest (now (line .entry)) at) × Sound (now (line .entry)) r ⌝ }
-{
-    let message = octets_field(line, at);
-    if message.to == line.len() {
-        return Request::Read(message);
-    }
-    Request::Bad
-}
-
-// write CIRCUIT TYPE FIXED FIRST SECOND OPTIONAL ROOM
-fn write_request(line: &[u8], at: usize) -> Request
-    requires { ⌜ length (now line) ≤ 8192 ⌝ }
-    ensures { λ r. ⌜ (r ≡ writeRequest (now (line .entry)) at) × Sound (now (line .entry)) r ⌝ }
-{
-    let circuit = number_field(line, at, ANY);
-    let kind = octet_field(line, circuit.to);
-    let fixed = octets_field(line, kind.to);
-    let first = octets_field(line, fixed.to);
-    let second = octets_field(line, first.to);
-    let optional = octets_field(line, second.to);
-    let room = number_field(line, optional.to, 1024);
-    if room.to == line.len() {
-        return Request::Write(
-            circuit.value,
-            kind.value,
-            fixed,
-            first,
-            second,
-            optional,
-            room.value as usize,
-        );
-    }
-    Request::Bad
-}
-
-// compact MESSAGE ROOM
-fn compact_request(line: &[u8], at: usize) -> Request
-    requires { ⌜ length (now line) ≤ 8192 ⌝ }
-    ensures { λ r. ⌜ (r ≡ compactRequest (now (line .entry)) at) × Sound (now (line .entry)) r ⌝ }
-{
-    let message = octets_field(line, at);
-    let room = number_field(line, message.to, 1024);
-    if room.to == line.len() {
-        return Request::Compact(message, room.value as usize);
-    }
-    Request::Bad
-}
-
-// find NAME MESSAGE DEFAULTS
-fn find_request(line: &[u8], at: usize) -> Request
-    requires { ⌜ length (now line) ≤ 8192 ⌝ }
-    ensures { λ r. ⌜ (r ≡ findRequest (now (line .entry)) at) × Sound (now (line .entry)) r ⌝ }
-{
-    let name = octet_field(line, at);
-    let message = octets_field(line, name.to);
-    let defaults = octets_field(line, message.to);
-    if defaults.to == line.len() {
-        return Request::Find(name.value, message, defaults);
-    }
-    Request::Bad
-}
-
-// number CONTENTS ROOM
-fn number_request(line: &[u8], at: usize) -> Request
-    requires { ⌜ length (now line) ≤ 8192 ⌝ }
-    ensures { λ r. ⌜ (r ≡ numberRequest (now (line .entry)) at) × Sound (now (line .entry)) r ⌝ }
-{
-    let contents = octets_field(line, at);
-    let room = number_field(line, contents.to, 1024);
-    if room.to == line.len() {
-        return Request::Number(contents, room.value as usize);
-    }
-    Request::Bad
-}
-
-// dial NATURE PLAN INTERNAL SIGNALS ROOM
-fn dial_request(line: &[u8], at: usize) -> Request
-    requires { ⌜ length (now line) ≤ 8192 ⌝ }
-    ensures { λ r. ⌜ (r ≡ dialRequest (now (line .entry)) at) × Sound (now (line .entry)) r ⌝ }
-{
-    let nature = number_field(line, at, ANY);
-    let plan = number_field(line, nature.to, ANY);
-    let internal = number_field(line, plan.to, ANY);
-    let signals = octets_field(line, internal.to);
-    let room = number_field(line, signals.to, 1024);
-    if room.to == line.len() {
-        return Request::Dial(
-            nature.value,
-            plan.value,
-            internal.value,
-            signals,
-            room.value as usize,
-        );
-    }
-    Request::Bad
-}
-
-// own FIRST LAST SENDER, or set FIRST LAST STATE, FIRST at most LAST
-fn table_request(line: &[u8], at: usize, owners: bool) -> Request
-    requires { ⌜ length (now line) ≤ 8192 ⌝ }
-    ensures { λ r. ⌜ (r ≡ tableRequest (now (line .entry)) at owners) × Sound (now (line .entry)) r ⌝ }
-{
-    let first = number_field(line, at, 4095);
-    let last = number_field(line, first.to, 4095);
-    let octet = number_field(line, last.to, 255);
-    if octet.to == line.len() {
-        if last.value < first.value {
-            return Request::Bad;
+    match number {
+        Number::Is(value) => {
+            if value < least {
+                return Number::Not;
+            }
+            Number::Is(value)
         }
-        if owners {
-            return Request::Own(first.value as usize, last.value as usize, octet.value as u8);
+        Number::Not => Number::Not,
+    }
+}
+
+// The number that a word stands for as a field of a kind, after a field that stands for `before`; or how many octets, which are put into the scratch.
+fn value_of(letter: u8, before: u32, word: &[u8], scratch: &mut [u8], next: usize) -> Number
+    ensures { λ r. ⌜ entry r (now (scratch .exit)) ≡ entered (kindOf letter) before (now (word .entry)) (now (scratch .entry)) next ⌝ }
+{
+    if letter == b'o' {
+        return words::octet_of(word);
+    }
+    if letter == b's' {
+        return words::octets_into(word, OCTETS_MOST, scratch, next);
+    }
+    if letter == b'l' {
+        return not_below(before, words::number_of(word, CIRCUIT_MOST));
+    }
+    words::number_of(word, most(letter))
+}
+
+// The field of a number, or of so many octets from `next` on.
+fn field_of(letter: u8, value: u32, next: usize) -> Field
+    ensures { λ r. ⌜ (r ≡ placed (kindOf letter) value next) × (r .count ≤ 4294967295) ⌝ }
+{
+    if letter == b's' {
+        return Field {
+            value: 0,
+            count: value,
+            from: next,
+        };
+    }
+    Field {
+        value,
+        count: 0,
+        from: next,
+    }
+}
+
+// The fields of a line after the word that ends at `end`, by the letters of their kinds.
+fn fields(row: Row, line: &[u8], end: usize, scratch: &mut [u8]) -> Request
+    ensures { λ r. ⌜ taken r (now (scratch .exit)) ≡ takenBy (row .which) (fieldsOf (kindsIn 8 (row .letters)) 0 (now (line .entry)) end (now (scratch .entry)) 0) ⌝ }
+{
+    let which = row.which;
+    let mut letters = row.letters;
+    let mut fields = [nowhere(); FIELDS_MOST];
+    let mut at = end;
+    let mut before = 0;
+    let mut next = 0;
+    let mut i = 0;
+    while i < FIELDS_MOST {
+        if letters == 0 {
+            if at == line.len() {
+                return Request { which, fields };
+            }
+            return none();
         }
-        return Request::Set(first.value as usize, last.value as usize, octet.value as u8);
-    }
-    Request::Bad
-}
-
-// act SENDER MESSAGE ROOM
-fn act_request(line: &[u8], at: usize) -> Request
-    requires { ⌜ length (now line) ≤ 8192 ⌝ }
-    ensures { λ r. ⌜ (r ≡ actRequest (now (line .entry)) at) × Sound (now (line .entry)) r ⌝ }
-{
-    let sender = number_field(line, at, ANY);
-    let message = octets_field(line, sender.to);
-    let room = number_field(line, message.to, 1024);
-    if room.to == line.len() {
-        return Request::Act(sender.value, message, room.value as usize);
-    }
-    Request::Bad
-}
-
-// rows FIRST LAST, FIRST at most LAST
-fn rows_request(line: &[u8], at: usize) -> Request
-    requires { ⌜ length (now line) ≤ 8192 ⌝ }
-    ensures { λ r. ⌜ (r ≡ rowsRequest (now (line .entry)) at) × Sound (now (line .entry)) r ⌝ }
-{
-    let first = number_field(line, at, 4095);
-    let last = number_field(line, first.to, 4095);
-    if last.to == line.len() {
-        if last.value < first.value {
-            return Request::Bad;
+        if line.len() <= at {
+            return none();
         }
-        return Request::Rows(first.value as usize, last.value as usize);
+        let from = at + 1;
+        let to = words::word_end(line, from);
+        let letter = (letters % 256) as u8;
+        match value_of(letter, before, &line[from..to], scratch, next) {
+            Number::Is(value) => {
+                let field = field_of(letter, value, next);
+                fields[i] = field;
+                before = field.value;
+                next = next + field.count as usize;
+            }
+            Number::Not => return none(),
+        }
+        letters = letters / 256;
+        at = to;
+        i += 1;
     }
-    Request::Bad
+    if at == line.len() {
+        return Request { which, fields };
+    }
+    none()
 }
 
-// What a line asks. A line that is over 8192 octets long, or that no request's form fits, asks nothing.
-pub fn request_of(line: &[u8]) -> Request
-    ensures { λ r. ⌜ (r ≡ requestOf (now (line .entry))) × Sound (now (line .entry)) r ⌝ }
+// a to z are 1 to 26, a dash is 27; 0 for any other octet.
+fn letter(c: u8) -> u64
+    ensures { λ r. ⌜ (r ≡ letterOf c) × (r ≤ 27) ⌝ }
 {
-    if 8192 < line.len() {
-        return Request::Bad;
+    if b'z' < c {
+        return 0;
+    }
+    if 96 < c {
+        return (c - 96) as u64;
+    }
+    if c == b'-' {
+        return 27;
+    }
+    0
+}
+
+// The number that stands for a word: 32 for each place, the first letter first; 0 where it has none.
+fn key(word: &[u8]) -> u64
+    ensures { λ r. ⌜ r ≡ keyOf (now (word .entry)) ⌝ }
+{
+    if WORD_MOST < word.len() {
+        return 0;
+    }
+    let mut key: u64 = 0;
+    let mut i = word.len();
+    while 0 < i {
+        i -= 1;
+        let digit = letter(word[i]);
+        if digit == 0 {
+            return 0;
+        }
+        key = 32 * key + digit;
+    }
+    key
+}
+
+// The table: a row for each key. Its rows are written by tools/forms.
+fn row_of(key: u64) -> Row
+    ensures { λ r. ⌜ r ≡ rowIn forms 0 key ⌝ }
+{
+    match key {
+        // shape o
+        5768467 => Row {
+            which: SHAPE,
+            letters: 0x6f,
+        },
+        // read s
+        132274 => Row {
+            which: READ,
+            letters: 0x73,
+        },
+        // write nossssr
+        5908055 => Row {
+            which: WRITE,
+            letters: 0x72737373736f6e,
+        },
+        // compact sr
+        21577086435 => Row {
+            which: COMPACT,
+            letters: 0x7273,
+        },
+        // find oss
+        145702 => Row {
+            which: FIND,
+            letters: 0x73736f,
+        },
+        // number sr
+        609302190 => Row {
+            which: NUMBER,
+            letters: 0x7273,
+        },
+        // dial nnnsr
+        394532 => Row {
+            which: DIAL,
+            letters: 0x72736e6e6e,
+        },
+        // own clv
+        15087 => Row {
+            which: OWN,
+            letters: 0x766c63,
+        },
+        // set clv
+        20659 => Row {
+            which: SET,
+            letters: 0x766c63,
+        },
+        // rows cl
+        646642 => Row {
+            which: ROWS,
+            letters: 0x6c63,
+        },
+        // act nsr
+        20577 => Row {
+            which: ACT,
+            letters: 0x72736e,
+        },
+        _ => Row {
+            which: BAD,
+            letters: 0,
+        },
+    }
+}
+
+// What a line asks. A line that is over 8192 octets long, or that no form fits, asks nothing; so does one whose octets the scratch has no room for, which 4096 octets always have.
+pub fn request_of(line: &[u8], scratch: &mut [u8]) -> Request
+    ensures { λ r. ⌜ taken r (now (scratch .exit)) ≡ requestOf (now (line .entry)) (now (scratch .entry)) ⌝ }
+{
+    if LINE_MOST < line.len() {
+        return none();
     }
     let end = words::word_end(line, 0);
-    let word = &line[..end];
-    if words::is(word, b"shape") {
-        return shape_request(line, end);
+    let row = row_of(key(&line[..end]));
+    if row.which == BAD {
+        return none();
     }
-    if words::is(word, b"read") {
-        return read_request(line, end);
-    }
-    if words::is(word, b"write") {
-        return write_request(line, end);
-    }
-    if words::is(word, b"compact") {
-        return compact_request(line, end);
-    }
-    if words::is(word, b"find") {
-        return find_request(line, end);
-    }
-    if words::is(word, b"number") {
-        return number_request(line, end);
-    }
-    if words::is(word, b"dial") {
-        return dial_request(line, end);
-    }
-    if words::is(word, b"own") {
-        return table_request(line, end, true);
-    }
-    if words::is(word, b"set") {
-        return table_request(line, end, false);
-    }
-    if words::is(word, b"act") {
-        return act_request(line, end);
-    }
-    if words::is(word, b"rows") {
-        return rows_request(line, end);
-    }
-    Request::Bad
+    fields(row, line, end, scratch)
 }

@@ -1,50 +1,273 @@
-// Reads each sample message of document 01 and writes a line for it: its octets, then its circuit and its type, or the refusal's number.
+// Shows each sample message of document 01 with its outcome: what the hub answers and leaves in the rows, the called number, the compact form, the optional parameter, or the refusal's number.
+use asks::Verdict;
+use finding::Located;
 use isup::Reading;
 use libc::STDOUT_FILENO;
+use number::NumberRead;
+use octets::Written;
+use rows::CIRCUITS;
 
-// Puts what the reader says of a message, and answers the next place.
-fn put_reading(message: &[u8], line: &mut [u8], at: usize) -> usize {
-    match isup::read(message) {
-        Reading::Read(x) => {
-            let circuit = printing::put_text(b" circuit ", line, at);
-            let kind = printing::put_number(x.circuit as u32, line, circuit);
-            let next = printing::put_text(b" type ", line, kind);
-            printing::put_octets(&[x.kind], line, next)
-        }
-        Reading::Refused(n) => {
-            let next = printing::put_text(b" refused ", line, at);
-            printing::put_number(n as u32, line, next)
+// Makes each octet of a table that one.
+fn fill(table: &mut [u8], octet: u8) {
+    let mut i = 0;
+    while i < table.len() {
+        table[i] = octet;
+        i += 1;
+    }
+}
+
+// The front of a buffer, or all of it where it is shorter.
+fn front(buffer: &[u8], n: usize) -> &[u8] {
+    if n <= buffer.len() {
+        return &buffer[0..n];
+    }
+    buffer
+}
+
+// The rows of a group, or none where the table is shorter.
+fn rows_of(states: &[u8], first: usize, range: usize) -> &[u8] {
+    if states.len() < CIRCUITS {
+        return &states[0..0];
+    }
+    if CIRCUITS <= first {
+        return &states[0..0];
+    }
+    if CIRCUITS - 1 - first < range {
+        return &states[0..0];
+    }
+    let end = first + range + 1;
+    &states[first..end]
+}
+
+// Puts a refusal's number, and answers the next place.
+fn put_refusal(number: u8, line: &mut [u8], at: usize) -> usize {
+    let next = printing::put_text(b" refused ", line, at);
+    printing::put_number(number as u32, line, next)
+}
+
+// Puts octets after a word, and answers the next place.
+fn put_shown(word: &[u8], octets: &[u8], line: &mut [u8], at: usize) -> usize {
+    let next = printing::put_text(word, line, at);
+    printing::put_octets(octets, line, next)
+}
+
+// Puts the circuits that a message names and their rows, and answers the next place.
+fn put_rows(message: &[u8], states: &[u8], line: &mut [u8], at: usize) -> usize {
+    match asks::decode(message) {
+        Verdict::Refused(n, _) => put_refusal(n, line, at),
+        Verdict::Granted(ask) => {
+            let first = printing::put_text(b" first circuit ", line, at);
+            let rows = printing::put_number(number_of(ask.circuit), line, first);
+            put_shown(
+                b" rows ",
+                rows_of(states, ask.circuit, ask.range),
+                line,
+                rows,
+            )
         }
     }
 }
 
-// Writes the line of a message.
-fn write_line(message: &[u8], line: &mut [u8]) {
-    let at = printing::put_octets(message, line, 0);
-    let end = put_reading(message, line, at);
-    let n = printing::put_octet(b'\n', line, end);
+// A circuit as a number to be shown.
+fn number_of(circuit: usize) -> u32 {
+    if 4095 < circuit {
+        return 4095;
+    }
+    circuit as u32
+}
+
+// Puts what the hub makes of a message, every row 0 before and every circuit the sender's; answers the next place.
+fn put_acted(
+    message: &[u8],
+    states: &mut [u8],
+    owners: &[u8],
+    answer: &mut [u8],
+    line: &mut [u8],
+    at: usize,
+) -> usize {
+    fill(states, 0);
+    match hub::act(states, owners, 1, message, answer) {
+        Written::Refused(n, _) => put_refusal(n, line, at),
+        Written::Octets(n) => {
+            let next = put_shown(b" answer ", front(answer, n), line, at);
+            put_rows(message, states, line, next)
+        }
+    }
+}
+
+// Puts the signals of a called number, and answers the next place.
+fn put_signals(contents: &[u8], signals: &mut [u8], line: &mut [u8], at: usize) -> usize {
+    match number::read_number(contents, signals) {
+        NumberRead::Refused(n) => put_refusal(n, line, at),
+        NumberRead::Read(x) => put_shown(b" number ", front(signals, x.count), line, at),
+    }
+}
+
+// The contents of a message's first variable parameter.
+fn contents_of(message: &[u8], from: usize, to: usize) -> &[u8] {
+    if to < from {
+        return &message[0..0];
+    }
+    if message.len() < to {
+        return &message[0..0];
+    }
+    &message[from..to]
+}
+
+// Puts the called number of an IAM, and answers the next place.
+fn put_called(message: &[u8], signals: &mut [u8], line: &mut [u8], at: usize) -> usize {
+    match isup::read(message) {
+        Reading::Refused(n) => put_refusal(n, line, at),
+        Reading::Read(x) => {
+            let parts = x.parts;
+            let first = parts.first;
+            put_signals(
+                contents_of(message, first.from, first.to),
+                signals,
+                line,
+                at,
+            )
+        }
+    }
+}
+
+// Puts the compact form of a message, and answers the next place.
+fn put_compact(message: &[u8], out: &mut [u8], line: &mut [u8], at: usize) -> usize {
+    match isup::compact(message, out) {
+        Written::Refused(n, _) => put_refusal(n, line, at),
+        Written::Octets(n) => put_shown(b" compact ", front(out, n), line, at),
+    }
+}
+
+// Puts the contents of the optional parameter with name 20, and answers the next place.
+fn put_found(message: &[u8], line: &mut [u8], at: usize) -> usize {
+    match finding::locate(message, &message[0..0], 0x20) {
+        Located::Refused(n, _) => put_refusal(n, line, at),
+        Located::Message(_, _) => {
+            put_shown(
+                b" name 20 contents ",
+                finding::find(message, 0x20),
+                line,
+                at,
+            )
+        }
+        Located::Defaults(_, _) => at,
+    }
+}
+
+// Ends a line and writes it.
+fn write_line(line: &mut [u8], at: usize) {
+    let n = printing::put_octet(b'\n', line, at);
     if n <= line.len() {
         io::write_all(STDOUT_FILENO, &line[0..n]);
     }
 }
 
-fn main() {
-    let mut line = io::buffer();
-    write_line(b"\x05\x00\x17\x01\x01\x03", &mut line);
-    write_line(b"\x23\x01\x13", &mut line);
-    write_line(b"\x08\x00\x18\x00\x01\x03\x09\x01\x02", &mut line);
-    write_line(b"\x01\x00\x0C\x02\x00\x02\x80\x90", &mut line);
-    write_line(
-        b"\x01\x00\x01\x00\x60\x01\x0A\x00\x02\x00\x04\x03\x10\x21\x43",
-        &mut line,
+// Shows what the hub makes of a message.
+fn show_acted(
+    message: &[u8],
+    states: &mut [u8],
+    owners: &[u8],
+    answer: &mut [u8],
+    line: &mut [u8],
+) {
+    let at = printing::put_octets(message, line, 0);
+    let end = put_acted(message, states, owners, answer, line, at);
+    write_line(line, end);
+}
+
+// Shows the called number of a message.
+fn show_called(message: &[u8], signals: &mut [u8], line: &mut [u8]) {
+    let at = printing::put_octets(message, line, 0);
+    let end = put_called(message, signals, line, at);
+    write_line(line, end);
+}
+
+// Shows the compact form of a message.
+fn show_compact(message: &[u8], out: &mut [u8], line: &mut [u8]) {
+    let at = printing::put_octets(message, line, 0);
+    let end = put_compact(message, out, line, at);
+    write_line(line, end);
+}
+
+// Shows the optional parameter of a message.
+fn show_found(message: &[u8], line: &mut [u8]) {
+    let at = printing::put_octets(message, line, 0);
+    let end = put_found(message, line, at);
+    write_line(line, end);
+}
+
+// Shows the paper's rows that the hub accepts or refuses itself.
+fn show_hub(states: &mut [u8], owners: &[u8], answer: &mut [u8], line: &mut [u8]) {
+    show_acted(b"\x05\x00\x17\x01\x01\x03", states, owners, answer, line);
+    show_acted(b"\x23\x01\x13", states, owners, answer, line);
+    show_acted(
+        b"\x08\x00\x18\x00\x01\x03\x09\x01\x02",
+        states,
+        owners,
+        answer,
+        line,
     );
-    write_line(b"\x01\x00\x09\x01\x00", &mut line);
-    write_line(b"\x01\x00\x09\x01\x20\x01\x41\x00", &mut line);
-    write_line(b"\x01\x00\x09\x01\x20\x01\x41", &mut line);
-    write_line(b"\x01\x00\x0C\x02\x00\x03\x80\x90", &mut line);
-    write_line(b"\x01\x00\x0C\x01\x00", &mut line);
-    write_line(b"\x01\x00\x0C\x02\x01\x01\x00\x00", &mut line);
-    write_line(b"\x01\x00\x09\x01", &mut line);
-    write_line(b"\xE0\x0F\x17\x01\x01\x1F", &mut line);
-    write_line(b"\xFF\x0F\x17\x01\x01\x01", &mut line);
+    show_acted(
+        b"\x01\x00\x0C\x02\x00\x02\x80\x90",
+        states,
+        owners,
+        answer,
+        line,
+    );
+}
+
+// Shows the paper's rows that the reader refuses.
+fn show_refused(states: &mut [u8], owners: &[u8], answer: &mut [u8], line: &mut [u8]) {
+    show_acted(
+        b"\x01\x00\x0C\x02\x00\x03\x80\x90",
+        states,
+        owners,
+        answer,
+        line,
+    );
+    show_acted(b"\x01\x00\x0C\x01\x00", states, owners, answer, line);
+    show_acted(
+        b"\x01\x00\x0C\x02\x01\x01\x00\x00",
+        states,
+        owners,
+        answer,
+        line,
+    );
+    show_acted(b"\x01\x00\x09\x01", states, owners, answer, line);
+}
+
+// Shows the paper's two rows at the end of the table.
+fn show_last(states: &mut [u8], owners: &[u8], answer: &mut [u8], line: &mut [u8]) {
+    show_acted(b"\xE0\x0F\x17\x01\x01\x1F", states, owners, answer, line);
+    show_acted(b"\xFF\x0F\x17\x01\x01\x01", states, owners, answer, line);
+}
+
+// Shows the paper's rows on a called number, a compact form and an optional parameter.
+fn show_parts(answer: &mut [u8], line: &mut [u8]) {
+    show_called(
+        b"\x01\x00\x01\x00\x60\x01\x0A\x00\x02\x00\x04\x03\x10\x21\x43",
+        answer,
+        line,
+    );
+    show_compact(b"\x01\x00\x09\x01\x00", answer, line);
+    show_found(b"\x01\x00\x09\x01\x20\x01\x41\x00", line);
+    show_found(b"\x01\x00\x09\x01\x20\x01\x41", line);
+}
+
+// Shows all fourteen, in the paper's order.
+fn show_all(states: &mut [u8], owners: &[u8], answer: &mut [u8], line: &mut [u8]) {
+    show_hub(states, owners, answer, line);
+    show_parts(answer, line);
+    show_refused(states, owners, answer, line);
+    show_last(states, owners, answer, line);
+}
+
+fn main() {
+    let mut states = io::buffer();
+    let mut owners = io::buffer();
+    let mut answer = io::buffer();
+    let mut line = io::buffer();
+    fill(&mut owners, 1);
+    show_all(&mut states, &owners, &mut answer, &mut line);
 }

@@ -1,20 +1,19 @@
 -- How far a word reaches, and how large what it stands for can be.
 use Prim.Native.Nat.{ℕ, suc, _+_, _*_, _%_, _≤_, _<_}
-use mathlib.Core.Path.{_≡_, refl, sym, _∙_, ap}
-use mathlib.Core.Bool.{Bool, true, false, false≢true}
+use mathlib.Core.Path.{_≡_}
+use mathlib.Core.Bool.{Bool, true, false}
 use mathlib.Core.List.{List, [], _∷_}
-use mathlib.Core.Logic.{_⊎_, inl, inr, ⊎-elim}
+use mathlib.Core.Logic.{⊎-elim}
 use native.Mathlib.Omega.{arith}
 use native.Mathlib.Nat.{mod-lt}
-use borrow.Author.Tests.{ltb-false, eqb-true}
+use borrow.Author.Tests.{ltb-false}
 use lib.Dec.{ltb, eqb}
 use lib.ListN.{length, getD, drop, length-drop}
 use Rattle.octets.specs.Choice.{if_then_else_}
 use Rattle.octets.proofs.Choice.{chosen}
-use Rattle.words.specs.declared.Number.{Number}
 use Rattle.words.specs.declared.Number.the-variants.{Is, Not}
 use Rattle.words.specs.Digits.{valueOf}
-use Rattle.words.specs.Words.{wordLength, digitsFrom, numberOf, allDigits, octetOf, areOctets}
+use Rattle.words.specs.Words.{wordLength, digitsFrom, numberOf, allDigits, octetOf}
 
 -- a word ends in its line
 word-short : (l : List ℕ) → wordLength l ≤ length l
@@ -59,13 +58,3 @@ octet-most v l e =
     (λ x. ⊎-elim (λ y. let h : (16 * valueOf (getD l 0 0) + valueOf (getD l 1 0)) % 256 < 256 = mod-lt _ (omega arith) in omega (arith, is-same (y .1))) (λ y. absurd (is-not (y .1))) (chosen (allDigits l) (x .1)))
     (λ x. absurd (is-not (x .1)))
     (chosen (eqb (length l) 2) e)
-
--- octets have 2048 digits at the most
-pub octets-most : (l : List ℕ) → areOctets l ≡ true → length l ≤ 2048
-unfolding areOctets
-octets-most l e =
-    ⊎-elim (λ x. omega (arith, eqb-true (length l) 1 (x .0)))
-    (λ x. ⊎-elim (λ y. omega (arith, eqb-true (length l) 0 (y .0)))
-    (λ y. ⊎-elim (λ z. absurd (false≢true (z .1))) (λ z. ltb-false 2048 (length l) (z .0)) (chosen (ltb 2048 (length l)) (y .1)))
-    (chosen (eqb (length l) 0) (x .1)))
-    (chosen (eqb (length l) 1) e)

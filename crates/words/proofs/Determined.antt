@@ -1,24 +1,15 @@
 -- Any two answers that a public function's contract allows are equal.
-use Prim.Native.Nat.{ℕ, _≤_}
-use mathlib.Core.Path.{_≡_}
-use mathlib.Core.Bool.{Bool}
+use Prim.Native.Nat.{ℕ}
+use mathlib.Core.Path.{_≡_, ap}
 use mathlib.Core.List.{List}
 use Rattle.octets.proofs.Answer.{one-answer}
 use Rattle.words.specs.declared.Number.{Number}
-use Rattle.words.specs.Digits.{valueOf}
-use Rattle.words.specs.Words.{wordEnd, same, numberOf, octetOf, areOctets}
-
--- what a digit stands for
-pub value-determined : (digit r s : ℕ) → (r ≡ valueOf digit) × (r ≤ 16) → (s ≡ valueOf digit) × (s ≤ 16) → r ≡ s
-value-determined digit r s p q = one-answer (p .0) (q .0)
+use Rattle.words.specs.Words.{wordEnd, numberOf, octetOf}
+use Rattle.words.specs.Into.{Entry, entry, octetsInto}
 
 -- where a word ends
 pub word-end-determined : (line : List ℕ) (from r s : ℕ) → r ≡ wordEnd line from → s ≡ wordEnd line from → r ≡ s
 word-end-determined line from r s = one-answer
-
--- whether two words are the same
-pub is-determined : (word other : List ℕ) (r s : Bool) → r ≡ same word other → s ≡ same word other → r ≡ s
-is-determined word other r s = one-answer
 
 -- the number that a word stands for
 pub number-of-determined : (word : List ℕ) (most : ℕ) (r s : Number) → r ≡ numberOf most word → s ≡ numberOf most word → r ≡ s
@@ -28,6 +19,6 @@ number-of-determined word most r s = one-answer
 pub octet-of-determined : (word : List ℕ) (r s : Number) → r ≡ octetOf word → s ≡ octetOf word → r ≡ s
 octet-of-determined word r s = one-answer
 
--- whether a word stands for octets
-pub are-octets-determined : (word : List ℕ) (r s : Bool) → r ≡ areOctets word → s ≡ areOctets word → r ≡ s
-are-octets-determined word r s = one-answer
+-- the octets of a word in a buffer: how many, and the buffer
+pub octets-into-determined : (most : ℕ) (word buffer : List ℕ) (at : ℕ) {r s : Number} {left rest : List ℕ} → entry r left ≡ octetsInto most word buffer at → entry s rest ≡ octetsInto most word buffer at → (r ≡ s) × (left ≡ rest)
+octets-into-determined most word buffer at p q = let e = one-answer p q in (ap (λ (x : Entry). x .count) e, ap (λ (x : Entry). x .left) e)

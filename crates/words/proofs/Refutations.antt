@@ -1,14 +1,11 @@
 -- Wrong programs, each refuted on one word: what it answers is not what the definition says, which stands here.
-use Prim.Native.Nat.{ℕ}
 use mathlib.Core.Path.{_≡_, refl}
-use mathlib.Core.Bool.{false}
-use mathlib.Core.List.{List}
-use lib.ListN.{replicate}
-use Rattle.words.specs.declared.Number.{Number}
+use mathlib.Core.List.{[], _∷_}
 use Rattle.words.specs.declared.Number.the-variants.{Is, Not}
 use Rattle.words.specs.Said.{said}
 use Rattle.words.specs.Digits.{valueOf}
-use Rattle.words.specs.Words.{wordLength, wordEnd, same, digitsFrom, numberOf, allDigits, octetOf, areOctets}
+use Rattle.words.specs.Words.{wordLength, wordEnd, digitsFrom, numberOf, allDigits, octetOf}
+use Rattle.words.specs.Into.{entry, pairsInto, octetsInto}
 
 -- g is no digit, and A is 10
 pub g-refuted : valueOf 103 ≡ 16
@@ -24,11 +21,6 @@ pub dash-refuted : wordEnd (said "a-b") 0 ≡ 3
 unfolding wordLength
 dash-refuted = refl
 
--- words with the same first octet
-pub first-octet-refuted : same (said "ab") (said "ac") ≡ false
-unfolding same
-first-octet-refuted = refl
-
 -- eleven digits, though they stand for 0
 pub eleven-digits-refuted : numberOf 4095 (said "00000000000") ≡ Not
 unfolding numberOf digitsFrom valueOf
@@ -43,11 +35,15 @@ pub low-half-refuted : octetOf (said "01") ≡ Is 1
 unfolding octetOf allDigits valueOf
 low-half-refuted = refl
 
--- 1025 octets, and one digit alone
-pub octets-1025-refuted : areOctets (replicate 2050 48) ≡ false
-unfolding areOctets
-octets-1025-refuted = refl
+-- more octets than may be, one digit alone, and the halves of an octet
+pub octets-3-refuted : octetsInto 2 (said "000000") (7 ∷ 7 ∷ 7 ∷ []) 0 ≡ entry Not (7 ∷ 7 ∷ 7 ∷ [])
+unfolding octetsInto
+octets-3-refuted = refl
 
-pub one-zero-refuted : areOctets (said "0") ≡ false
-unfolding areOctets
+pub one-zero-refuted : octetsInto 2 (said "0") (7 ∷ []) 0 ≡ entry Not (7 ∷ [])
+unfolding octetsInto
 one-zero-refuted = refl
+
+pub halves-refuted : octetsInto 2 (said "12") (7 ∷ 7 ∷ []) 1 ≡ entry (Is 1) (7 ∷ 18 ∷ [])
+unfolding octetsInto pairsInto valueOf
+halves-refuted = refl

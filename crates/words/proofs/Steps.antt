@@ -1,18 +1,17 @@
 -- A step along a word: what its first octet decides of the rest from octet i on.
-use Prim.Native.Nat.{ℕ, suc, _+_, _*_, _≤_, _<_}
+use Prim.Native.Nat.{ℕ, suc, _+_, _*_, _%_, _≤_, _<_}
 use mathlib.Core.Path.{_≡_, refl}
 use mathlib.Core.Bool.{true, false}
-use mathlib.Core.List.{List, [], _∷_}
+use mathlib.Core.List.{List, _∷_}
+use native.Mathlib.Omega.{arith}
 use native.Mathlib.Numerals.{add-one}
 use borrow.Author.Tests.{lt-ltb, le-ltb, eq-eqb, ne-eqb}
-use lib.Dec.{ltb, eqb}
-use lib.ListN.{length, getD, drop, drop-of-length-le}
+use lib.ListN.{length, getD, set, drop, drop-of-length-le}
 use lib.Seq.{drop-cons}
-use Rattle.octets.specs.Choice.{if_then_else_}
-use Rattle.words.specs.declared.Number.{Number}
 use Rattle.words.specs.declared.Number.the-variants.{Is, Not}
 use Rattle.words.specs.Digits.{valueOf}
-use Rattle.words.specs.Words.{wordLength, same, digitsFrom, numberOf, allDigits}
+use Rattle.words.specs.Words.{wordLength, digitsFrom, numberOf, allDigits}
+use Rattle.words.specs.Into.{entry, pairsInto}
 
 module _ (l : List ℕ) (i : ℕ) (h : i < length l) where
   -- a space ends a word
@@ -68,24 +67,36 @@ pub number-digits : (most : ℕ) (l : List ℕ) → (length l ≡ 0 → ⊥) →
 unfolding numberOf
 number-digits most l e h = rw (ne-eqb _ _ e, le-ltb _ _ h) refl
 
--- two words, octet by octet
-module _ (a b : List ℕ) (i : ℕ) where
-  pub same-shorter : i < length a → length b ≤ i → same (drop i a) (drop i b) ≡ false
-  unfolding same
-  same-shorter h e = rw (drop-cons a i 0 h, drop-of-length-le b e) refl
+-- the octets of a word, put two digits at a time: the digits from 2 * n on, after n octets
+module _ (word buffer : List ℕ) (at n : ℕ) where
+  -- none is left
+  pub into-ended : length word ≤ 2 * n → pairsInto (drop (2 * n) word) buffer at n ≡ entry (Is n) buffer
+  unfolding pairsInto
+  into-ended h = rw (drop-of-length-le word h) refl
 
-  pub same-longer : length a ≤ i → i < length b → same (drop i a) (drop i b) ≡ false
-  unfolding same
-  same-longer e h = rw (drop-cons b i 0 h, drop-of-length-le a e) refl
+  module _ (h : 2 * n + 1 < length word) where
+    -- two are left at the least
+    into-two : drop (2 * n) word ≡ getD word (2 * n) 0 ∷ getD word (2 * n + 1) 0 ∷ drop (2 * (n + 1)) word
+    into-two =
+        let e : 2 * n + 1 ≡ suc (2 * n) = omega arith in
+        let f : 2 * (n + 1) ≡ suc (suc (2 * n)) = omega arith in
+        rw (e, f, drop-cons word (2 * n) 0 (omega arith), drop-cons word (suc (2 * n)) 0 (omega arith)) refl
 
-  pub same-ended : length a ≤ i → length b ≤ i → same (drop i a) (drop i b) ≡ true
-  unfolding same
-  same-ended e h = rw (drop-of-length-le a e, drop-of-length-le b h) refl
+    -- the first is no digit
+    pub into-high : 15 < valueOf (getD word (2 * n) 0) → pairsInto (drop (2 * n) word) buffer at n ≡ entry Not buffer
+    unfolding pairsInto
+    into-high e = rw (into-two, lt-ltb _ _ e) refl
 
-  pub same-differs : i < length a → i < length b → (getD a i 0 ≡ getD b i 0 → ⊥) → same (drop i a) (drop i b) ≡ false
-  unfolding same
-  same-differs h k e = rw (drop-cons a i 0 h, drop-cons b i 0 k, ne-eqb _ _ e) refl
+    module _ (d : valueOf (getD word (2 * n) 0) ≤ 15) where
+      -- the second is no digit
+      pub into-low : 15 < valueOf (getD word (2 * n + 1) 0) → pairsInto (drop (2 * n) word) buffer at n ≡ entry Not buffer
+      unfolding pairsInto
+      into-low e = rw (into-two, le-ltb _ _ d, lt-ltb _ _ e) refl
 
-  pub same-more : i < length a → i < length b → getD a i 0 ≡ getD b i 0 → same (drop i a) (drop i b) ≡ same (drop (i + 1) a) (drop (i + 1) b)
-  unfolding same
-  same-more h k e = rw (add-one, drop-cons a i 0 h, drop-cons b i 0 k, eq-eqb _ _ e) refl
+      -- both are, and their octet is put
+      pub into-more : valueOf (getD word (2 * n + 1) 0) ≤ 15
+          → pairsInto (drop (2 * n) word) buffer at n ≡ pairsInto (drop (2 * (n + 1)) word) (set buffer (at + n) (16 * valueOf (getD word (2 * n) 0) + valueOf (getD word (2 * n + 1) 0))) at (n + 1)
+      unfolding pairsInto
+      into-more e =
+          let m : (16 * valueOf (getD word (2 * n) 0) + valueOf (getD word (2 * n + 1) 0)) % 256 ≡ 16 * valueOf (getD word (2 * n) 0) + valueOf (getD word (2 * n + 1) 0) = omega arith in
+          rw (into-two, le-ltb _ _ d, le-ltb _ _ e, m) refl

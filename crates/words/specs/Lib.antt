@@ -1,3 +1,4 @@
 pub mod Said
 pub mod Digits
 pub mod Words
+pub mod Into

@@ -1,5 +1,5 @@
 -- Words of a line, and what each stands for.
-use Prim.Native.Nat.{ℕ, suc, _+_, _*_, _%_}
+use Prim.Native.Nat.{ℕ, suc, _+_, _*_, _/_, _%_}
 use mathlib.Core.Bool.{Bool, true, false}
 use mathlib.Core.List.{List, [], _∷_}
 use lib.Dec.{ltb, eqb}
@@ -45,12 +45,12 @@ unfoldable pub allDigits : List ℕ → Bool
 allDigits [] = true
 allDigits (c ∷ cs) = if ltb 15 (valueOf c) then false else allDigits cs
 
--- whether a word stands for octets: `-` for none, or two hexadecimal digits for each of 1 to 1024
-unfoldable pub areOctets : List ℕ → Bool
-areOctets word =
+-- whether a word stands for octets: `-` for none, or two hexadecimal digits for each of 1 to `most`
+unfoldable pub areOctets : ℕ → List ℕ → Bool
+areOctets most word =
     if eqb (length word) 1 then eqb (getD word 0 0) 45
     else if eqb (length word) 0 then false
-    else if ltb 2048 (length word) then false
+    else if ltb most (length word / 2) then false
     else if eqb (length word % 2) 1 then false
     else allDigits word
 

@@ -1,9 +1,9 @@
 // Words of a line, and what each stands for: a number in decimal digits, or octets in hexadecimal ones.
 ghost use mathlib.Core.Path.{_≡_};
 ghost use Prim.Native.Nat.{_+_, _*_, _≤_, _<_};
-ghost use lib.ListN.{length};
 ghost use Rattle.words.specs.Digits.{valueOf};
-ghost use Rattle.words.specs.Words.{wordEnd, same, numberOf, octetOf, allDigits, areOctets};
+ghost use Rattle.words.specs.Words.{wordEnd, numberOf, octetOf, allDigits};
+ghost use Rattle.words.specs.Into.{entry, octetsInto};
 
 // A number, or that the word is none.
 pub enum Number {
@@ -12,7 +12,7 @@ pub enum Number {
 }
 
 // What a hexadecimal digit of either case stands for; 16 for an octet that is no digit.
-pub fn value(digit: u8) -> u8
+fn value(digit: u8) -> u8
     ensures { λ r. ⌜ (r ≡ valueOf digit) × (r ≤ 16) ⌝ }
 {
     if digit < b'0' {
@@ -48,26 +48,6 @@ pub fn word_end(line: &[u8], from: usize) -> usize
         at += 1;
     }
     at
-}
-
-// Whether two words are the same.
-pub fn is(word: &[u8], other: &[u8]) -> bool
-    ensures { λ r. ⌜ r ≡ same (now (word .entry)) (now (other .entry)) ⌝ }
-{
-    let mut i = 0;
-    while i < word.len() {
-        if other.len() <= i {
-            return false;
-        }
-        if word[i] != other[i] {
-            return false;
-        }
-        i += 1;
-    }
-    if i < other.len() {
-        return false;
-    }
-    true
 }
 
 // The number that a word of decimal digits stands for, up to `most`.
@@ -110,23 +90,46 @@ fn all_digits(word: &[u8]) -> bool
     true
 }
 
-// Whether a word stands for octets: `-` for none, or two hexadecimal digits for each of up to 1024.
-pub fn are_octets(word: &[u8]) -> bool
-    ensures { λ r. ⌜ r ≡ areOctets (now (word .entry)) ⌝ }
+// Puts the octets that a word stands for into a buffer from `at` on, and answers how many: `-` for none, or two hexadecimal digits for each of up to `most`.
+// It is no such word, or the buffer has no room: nothing is put, but for the octets before one that is no digit.
+pub fn octets_into(word: &[u8], most: u32, out: &mut [u8], at: usize) -> Number
+    ensures { λ r. ⌜ entry r (now (out .exit)) ≡ octetsInto most (now (word .entry)) (now (out .entry)) at ⌝ }
 {
     if word.len() == 1 {
-        return word[0] == b'-';
+        if word[0] == b'-' {
+            return Number::Is(0);
+        }
+        return Number::Not;
     }
     if word.len() == 0 {
-        return false;
+        return Number::Not;
     }
-    if 2048 < word.len() {
-        return false;
+    if (most as usize) < word.len() / 2 {
+        return Number::Not;
     }
     if word.len() % 2 == 1 {
-        return false;
+        return Number::Not;
     }
-    all_digits(word)
+    if out.len() < at {
+        return Number::Not;
+    }
+    if out.len() - at < word.len() / 2 {
+        return Number::Not;
+    }
+    let mut count = 0;
+    while count < word.len() / 2 {
+        let high = value(word[2 * count]);
+        if 15 < high {
+            return Number::Not;
+        }
+        let low = value(word[2 * count + 1]);
+        if 15 < low {
+            return Number::Not;
+        }
+        out[at + count] = 16 * high + low;
+        count += 1;
+    }
+    Number::Is(count as u32)
 }
 
 // The octet that a word of two hexadecimal digits stands for.

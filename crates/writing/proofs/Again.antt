@@ -2,28 +2,30 @@
 use Prim.Native.Nat.{ℕ, zero, suc, _+_, _-_, _≤_, _<_}
 use mathlib.Core.Path.{_≡_, refl, sym, _∙_, ap, subst}
 use mathlib.Core.Bool.{Bool, true, false}
-use mathlib.Core.List.{List, [], _∷_, _++_, map}
-use mathlib.Core.Logic.{_⊎_, inl, inr, ⊎-elim}
+use mathlib.Core.List.{List, [], _∷_}
+use mathlib.Core.Logic.{⊎-elim}
 use native.Mathlib.Omega.{arith}
 use borrow.Author.Tests.{lt-ltb}
-use lib.Dec.{ltb}
-use lib.ListN.{length, getD, take, length-append}
+use lib.ListN.{length, take, length-append}
 use lib.Seq.{length-take-le}
 use Rattle.octets.specs.Octet.{octet, octets}
-use Rattle.octets.proofs.Octet.{length-octets, Within, within-octets, within-join, within-at, within-nothing, within-one, within-stretch, within-whole}
-use Rattle.octets.proofs.Counting.{total, inside, inside-or, total-span, total-add, total-most}
+use Rattle.octets.proofs.Octet.{length-octets, Within, within-octets, within-join, within-at, within-nothing, within-one, within-stretch}
+use Rattle.octets.proofs.Counting.{inside}
 use Rattle.layout.specs.declared.Span.{Span}
 use Rattle.layout.specs.declared.Shape.{Shape}
 use Rattle.layout.specs.declared.Parts.{Parts}
-use Rattle.layout.specs.Run.{span, isRun}
+use Rattle.runs.specs.Run.{isRun}
 use Rattle.layout.specs.Container.{nothing, bit, startOf, endOf, contentsOf, runOf, held}
-use Rattle.layout.specs.Laid.{Points, Variable, Param, ParamAt, Params, Closes, Run, VariableSlot, OptionalSlot, Share, AllApart, LaidOut}
-use Rattle.layout.proofs.Runs.{params-on}
-use Rattle.layout.proofs.Exactly.{is-run-exactly, run-params, parts-inside}
-use Rattle.writing.specs.Write.{Order, order, contentsIn, pointers, ahead, variables, runPointer, closedRun, gapOf, compactOf, octetsOf, Fits}
-use Rattle.writing.specs.Compact.{Tight, Compact, partOf, saidWith, saidBy}
+use Rattle.layout.specs.Laid.{Variable, VariableSlot, OptionalSlot, LaidOut}
+use Rattle.runs.specs.Params.{Param, Params}
+use Rattle.runs.proofs.Runs.{params-on}
+use Rattle.runs.proofs.Exactly.{is-run-exactly}
+use Rattle.layout.proofs.Exactly.{run-params, parts-inside}
+use Rattle.writing.specs.Write.{contentsIn, pointers, ahead, variables, runPointer, closedRun, gapOf, formOf, orderOctets, Fits}
+use Rattle.writing.specs.Compact.{Tight, Compact, saidWith, saidBy}
+use Rattle.layout.specs.Spans.{partOf}
 use Rattle.writing.proofs.Plain.{Count, none, one, two, more, counted}
-use Rattle.writing.proofs.Placed.{ahead-sum, Pieces, assembled}
+use Rattle.writing.proofs.Placed.{ahead-sum, assembled}
 use Rattle.writing.proofs.Storing.{closed-run}
 
 -- ---- what a message says fits its shape
@@ -41,6 +43,7 @@ module _ (m : List ℕ) (w : ℕ) (s : Shape) (p : Parts) (qs : List Param) (l :
   pub said-fits : (head : List ℕ) → Fits s (saidWith head m w p)
   unfolding held
   said-fits head = rw (l .holds) (record {
+    few = l .few;
     fixed = (let e : w + 1 + s .fixed - (w + 1) ≡ s .fixed = omega arith in length-octets m (w + 1) (w + 1 + s .fixed - (w + 1)) (omega (arith, l .whole)) ∙ e);
     first = λ h. empty-part m (l .a) (slot-empty m (endOf w s) (startOf w s) 0 (s .vars) (l .a) (l .first) h);
     second = λ h. empty-part m (l .b) (slot-empty m (endOf w s) (startOf w s) 1 (s .vars) (l .b) (l .second) h);
@@ -238,10 +241,11 @@ last-part m true e y g qs d i a b q x t n =
     some [] z p e n = absurd (omega (arith, ap (λ (s : Span). s .to) (n refl)))
     some (q ∷ qs) z p e n = omega (arith, params-on qs m (p .0) z (p .2), p .1 .ends)
 
-pub compact-is : (m : List ℕ) (w : ℕ) (s : Shape) (p : Parts) (qs : List Param) → s .vars ≤ 3 → Compact m w s p qs → m ≡ octetsOf s (saidBy m w p)
-unfolding compactOf held
-compact-is m w s p qs few x =
+pub compact-is : (m : List ℕ) (w : ℕ) (s : Shape) (p : Parts) (qs : List Param) → Compact m w s p qs → m ≡ orderOctets s (saidBy m w p)
+unfolding formOf held
+compact-is m w s p qs x =
     let l = x .laid in
+    let few = x .laid .few in
     let e = endOf w s in
     let n = counted (s .vars) in
     let v = variables-follow m (endOf w s) (startOf w s) (s .vars) (length m) (l .a) (l .b) (l .c) (l .d) few (counted (s .vars)) (l .first) (l .second) (l .third) (x .tight) in
@@ -273,5 +277,5 @@ compact-is m w s p qs few x =
     })
 
 -- two messages in compact form that say the same are the same octets
-pub compact-one : (m m′ : List ℕ) (w : ℕ) (s : Shape) (p p′ : Parts) (qs qs′ : List Param) → s .vars ≤ 3 → Compact m w s p qs → Compact m′ w s p′ qs′ → saidBy m w p ≡ saidBy m′ w p′ → m ≡ m′
-compact-one m m′ w s p p′ qs qs′ few x x′ e = compact-is m w s p qs few x ∙ ap (octetsOf s) e ∙ sym (compact-is m′ w s p′ qs′ few x′)
+pub compact-one : (m m′ : List ℕ) (w : ℕ) (s : Shape) (p p′ : Parts) (qs qs′ : List Param) → Compact m w s p qs → Compact m′ w s p′ qs′ → saidBy m w p ≡ saidBy m′ w p′ → m ≡ m′
+compact-one m m′ w s p p′ qs qs′ x x′ e = compact-is m w s p qs x ∙ ap (orderOctets s) e ∙ sym (compact-is m′ w s p′ qs′ x′)

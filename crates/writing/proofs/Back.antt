@@ -1,25 +1,24 @@
 -- What is written is laid out, in the compact form, and says what was given.
 use Prim.Native.Nat.{ℕ, zero, suc, _+_, _-_, _≤_, _<_}
 use mathlib.Core.Path.{_≡_, refl, sym, _∙_, ap, subst}
-use mathlib.Core.Bool.{Bool, true, false}
+use mathlib.Core.Bool.{true}
 use mathlib.Core.List.{List, [], _∷_, _++_}
-use mathlib.Core.Logic.{_⊎_, inl, inr, ⊎-elim}
+use mathlib.Core.Logic.{inl, inr}
 use native.Mathlib.Omega.{arith}
 use native.Mathlib.Decide.{decLt}
 use borrow.Author.Tests.{lt-ltb}
-use lib.Dec.{ltb}
 use lib.ListN.{length, getD, take, length-append, List·getD-eq-default}
 use lib.Seq.{length-take-le}
 use Rattle.octets.specs.Octet.{octet, octets}
 use Rattle.octets.proofs.Octet.{Within, within-all, within-left, within-right, within-at, within-head}
-use Rattle.layout.specs.declared.Span.{Span}
 use Rattle.layout.specs.declared.Shape.{Shape}
 use Rattle.layout.specs.declared.Parts.{Parts}
-use Rattle.layout.specs.Run.{span}
+use Rattle.layout.specs.Spans.{span, partOf}
 use Rattle.layout.specs.Container.{nothing, bit, startOf, endOf, contentsOf, runOf, held}
-use Rattle.layout.specs.Laid.{Param, Params, VariableSlot, LaidOut}
-use Rattle.writing.specs.Write.{Order, order, contentsIn, ahead, variables, closedRun, gapOf, compactOf, octetsOf, Fits}
-use Rattle.writing.specs.Compact.{Tight, Compact, partOf, saidBy}
+use Rattle.runs.specs.Params.{Param, Params}
+use Rattle.layout.specs.Laid.{VariableSlot, LaidOut}
+use Rattle.writing.specs.Write.{Order, order, contentsIn, ahead, variables, closedRun, gapOf, orderOctets, Fits}
+use Rattle.writing.specs.Compact.{Tight, Compact, saidBy}
 use Rattle.writing.proofs.Placed.{spansFrom, optSpan, length-spans, ahead-sum, variables-long, vars-placed, opt-placed, spans-apart, opt-apart, Pieces, pieced}
 
 -- ---- nothing stands between the parts, and nothing after
@@ -82,7 +81,7 @@ unfolding optSpan
 none-dropped u [] qs p e = refl
 none-dropped u (x ∷ xs) qs p e = absurd (let q : Params (x ∷ xs) 0 [] (length (x ∷ xs)) = subst (λ (l : List Param). Params (x ∷ xs) 0 l (length (x ∷ xs))) e p in omega arith)
 
-module _ (s : Shape) (few : s .vars ≤ 3) (o : Order) (f : Fits s o) where
+module _ (s : Shape) (o : Order) (f : Fits s o) where
   -- where the parts of what is written stand
   pub placed : Parts
   placed =
@@ -92,17 +91,17 @@ module _ (s : Shape) (few : s .vars ≤ 3) (o : Order) (f : Fits s o) where
       (optSpan (endOf (length (o .head)) s + length (variables (contentsIn s o))) (o .run))
 
   count : length (contentsIn s o) ≡ s .vars
-  count = length-take-le (s .vars) (o .first ∷ o .second ∷ o .third ∷ []) few
+  count = length-take-le (s .vars) (o .first ∷ o .second ∷ o .third ∷ []) (f .few)
 
-  pieces : Pieces (octetsOf s o) (s .opt) (o .head) (o .kind) (o .fixed) (contentsIn s o) (o .run)
+  pieces : Pieces (orderOctets s o) (s .opt) (o .head) (o .kind) (o .fixed) (contentsIn s o) (o .run)
   pieces = pieced (s .opt) (o .head) (o .kind) (o .fixed) (contentsIn s o) (o .run)
 
   slotted : (k : ℕ) → Dec (k < length (contentsIn s o))
-      → VariableSlot (octetsOf s o) (endOf (length (o .head)) s) (startOf (length (o .head)) s) k (s .vars) (getD (spansFrom (endOf (length (o .head)) s) (contentsIn s o)) k nothing)
+      → VariableSlot (orderOctets s o) (endOf (length (o .head)) s) (startOf (length (o .head)) s) k (s .vars) (getD (spansFrom (endOf (length (o .head)) s) (contentsIn s o)) k nothing)
   slotted k (yes h) =
       inl (
         omega (arith, count),
-        vars-placed (octetsOf s o) (contentsIn s o) (startOf (length (o .head)) s) (gapOf (s .opt) (contentsIn s o)) (endOf (length (o .head)) s) (endOf (length (o .head)) s)
+        vars-placed (orderOctets s o) (contentsIn s o) (startOf (length (o .head)) s) (gapOf (s .opt) (contentsIn s o)) (endOf (length (o .head)) s) (endOf (length (o .head)) s)
             (within-at _ (omega (arith, f .fixed)) (pieces .pointing))
             (within-at _ (omega (arith, f .fixed, count)) (pieces .contents))
             (omega (arith, count)) (omega arith) k h,
@@ -114,11 +113,11 @@ module _ (s : Shape) (few : s .vars ≤ 3) (o : Order) (f : Fits s o) where
   ahead-some : s .opt ≡ true → 0 < ahead (gapOf (s .opt) (contentsIn s o)) (contentsIn s o)
   ahead-some e = omega (arith, ahead-sum (gapOf (s .opt) (contentsIn s o)) (contentsIn s o), variables-long (contentsIn s o), ap bit e)
 
-  ending-at : length (octetsOf s o) ≡ endOf (length (o .head)) s + length (variables (contentsIn s o)) + length (closedRun (o .run))
+  ending-at : length (orderOctets s o) ≡ endOf (length (o .head)) s + length (variables (contentsIn s o)) + length (closedRun (o .run))
   ending-at = omega (arith, pieces .ending, f .fixed, count)
 
   module _ (qs : List Param) (p : Params (o .run) 0 qs (length (o .run))) where
-    pub written-laid : LaidOut (octetsOf s o) (length (o .head)) s placed qs
+    pub written-laid : LaidOut (orderOctets s o) (length (o .head)) s placed qs
     unfolding placed
     written-laid =
         let t = endOf (length (o .head)) s in
@@ -130,12 +129,13 @@ module _ (s : Shape) (few : s .vars ≤ 3) (o : Order) (f : Fits s o) where
           b = getD (spansFrom t vs) 1 nothing;
           c = getD (spansFrom t vs) 2 nothing;
           d = optSpan u (o .run);
+          few = f .few;
           whole = omega (arith, x .contents .inside, f .fixed, count);
           first = slotted 0 (decLt 0 (length (contentsIn s o)));
           second = slotted 1 (decLt 1 (length (contentsIn s o)));
           third = slotted 2 (decLt 2 (length (contentsIn s o)));
           optional =
-              opt-placed (octetsOf s o) (s .opt) (o .run) qs p t (startOf (length (o .head)) s + s .vars) (ahead (gapOf (s .opt) (contentsIn s o)) (contentsIn s o)) u
+              opt-placed (orderOctets s o) (s .opt) (o .run) qs p t (startOf (length (o .head)) s + s .vars) (ahead (gapOf (s .opt) (contentsIn s o)) (contentsIn s o)) u
               (within-at _ (omega (arith, f .fixed, count)) (x .lasts))
               (within-at _ (omega (arith, f .fixed, count)) (x .optional))
               refl
@@ -151,31 +151,31 @@ module _ (s : Shape) (few : s .vars ≤ 3) (o : Order) (f : Fits s o) where
         }
 
     -- what is written is in the compact form
-    pub written-compact : Compact (octetsOf s o) (length (o .head)) s placed qs
+    pub written-compact : Compact (orderOctets s o) (length (o .head)) s placed qs
     unfolding placed written-laid
     written-compact = record {
       laid = written-laid;
-      tight = rw ending-at (all-tight (contentsIn s o) (omega (arith, count, few)) (endOf (length (o .head)) s) (o .run));
+      tight = rw ending-at (all-tight (contentsIn s o) (omega (arith, count, f .few)) (endOf (length (o .head)) s) (o .run));
       dropped = λ e. none-dropped _ (o .run) qs p e;
     }
 
   -- it says what was given: header, type, fixed octets, contents and run, octet for octet
-  pub written-says : saidBy (octetsOf s o) (length (o .head)) placed ≡ o
+  pub written-says : saidBy (orderOctets s o) (length (o .head)) placed ≡ o
   unfolding placed held
   written-says =
       let x = pieces in
-      let m = octetsOf s o in
+      let m = orderOctets s o in
       let w = length (o .head) in
       let t = endOf (length (o .head)) s in
-      let n = nth (o .first) (o .second) (o .third) (s .vars) few (f .first) (f .second) (f .third) in
-      let cs : Within (octetsOf s o) (endOf (length (o .head)) s) (variables (contentsIn s o)) = within-at _ (omega (arith, f .fixed, count)) (x .contents) in
-      let h₁ : octets (octetsOf s o) 0 (length (o .head)) ≡ o .head = within-all (x .heads) in
-      let h₂ : octet (octetsOf s o) (length (o .head)) ≡ o .kind = within-head (x .kinds) in
+      let n = nth (o .first) (o .second) (o .third) (s .vars) (f .few) (f .first) (f .second) (f .third) in
+      let cs : Within (orderOctets s o) (endOf (length (o .head)) s) (variables (contentsIn s o)) = within-at _ (omega (arith, f .fixed, count)) (x .contents) in
+      let h₁ : octets (orderOctets s o) 0 (length (o .head)) ≡ o .head = within-all (x .heads) in
+      let h₂ : octet (orderOctets s o) (length (o .head)) ≡ o .kind = within-head (x .kinds) in
       let e₃ : startOf (length (o .head)) s - (length (o .head) + 1) ≡ length (o .fixed) = omega (arith, f .fixed) in
-      let h₃ : octets (octetsOf s o) (length (o .head) + 1) (startOf (length (o .head)) s - (length (o .head) + 1)) ≡ o .fixed =
-      ap (octets (octetsOf s o) (length (o .head) + 1)) e₃ ∙ within-all (within-right (o .kind ∷ []) (o .fixed) (x .kinds)) in
-      let h₄ = contents-held (octetsOf s o) (contentsIn s o) (endOf (length (o .head)) s) 0 cs ∙ n .0 in
-      let h₅ = contents-held (octetsOf s o) (contentsIn s o) (endOf (length (o .head)) s) 1 cs ∙ n .1 in
-      let h₆ = contents-held (octetsOf s o) (contentsIn s o) (endOf (length (o .head)) s) 2 cs ∙ n .2 in
-      let h₇ = run-held (octetsOf s o) (o .run) (endOf (length (o .head)) s + length (variables (contentsIn s o))) (within-at _ (omega (arith, f .fixed, count)) (x .optional)) in
+      let h₃ : octets (orderOctets s o) (length (o .head) + 1) (startOf (length (o .head)) s - (length (o .head) + 1)) ≡ o .fixed =
+      ap (octets (orderOctets s o) (length (o .head) + 1)) e₃ ∙ within-all (within-right (o .kind ∷ []) (o .fixed) (x .kinds)) in
+      let h₄ = contents-held (orderOctets s o) (contentsIn s o) (endOf (length (o .head)) s) 0 cs ∙ n .0 in
+      let h₅ = contents-held (orderOctets s o) (contentsIn s o) (endOf (length (o .head)) s) 1 cs ∙ n .1 in
+      let h₆ = contents-held (orderOctets s o) (contentsIn s o) (endOf (length (o .head)) s) 2 cs ∙ n .2 in
+      let h₇ = run-held (orderOctets s o) (o .run) (endOf (length (o .head)) s + length (variables (contentsIn s o))) (within-at _ (omega (arith, f .fixed, count)) (x .optional)) in
       λ i. order (h₁ i) (h₂ i) (h₃ i) (h₄ i) (h₅ i) (h₆ i) (h₇ i)

@@ -1,20 +1,21 @@
 -- A message in compact form, of octets, holds its own lengths and pointers: none exceeds 255.
-use Prim.Native.Nat.{ℕ, zero, suc, _+_, _≤_, _<_}
-use mathlib.Core.Path.{_≡_, refl, sym, _∙_, ap, subst}
+use Prim.Native.Nat.{ℕ, suc, _+_, _≤_, _<_}
+use mathlib.Core.Path.{_≡_, refl, sym, _∙_, subst}
 use mathlib.Core.Bool.{Bool, true, false}
 use mathlib.Core.List.{List, [], _∷_, _++_, map}
 use native.Mathlib.Omega.{arith}
 use borrow.Author.Tests.{le-ltb}
 use lib.Dec.{ltb}
 use lib.ListN.{length}
-use Rattle.octets.specs.Octet.{octet, AllOctets}
+use Rattle.octets.specs.Octet.{AllOctets}
 use Rattle.octets.specs.Choice.{if_then_else_}
-use Rattle.octets.proofs.Octet.{Within, within-left, within-right, within-head}
+use Rattle.octets.proofs.Octet.{Within, within-right, within-head}
 use Rattle.layout.specs.declared.Shape.{Shape}
 use Rattle.layout.specs.declared.Parts.{Parts}
-use Rattle.layout.specs.Laid.{Param}
-use Rattle.writing.specs.Write.{Order, contentsIn, pointers, variables, runPointer, ahead, gapOf, compactOf, octetsOf, marks, exceeds}
-use Rattle.writing.specs.Compact.{Compact, partOf, saidBy}
+use Rattle.runs.specs.Params.{Param}
+use Rattle.writing.specs.Write.{contentsIn, variables, marks, exceeds}
+use Rattle.writing.specs.Compact.{Compact, saidBy}
+use Rattle.layout.specs.Spans.{partOf}
 use Rattle.writing.proofs.Placed.{Pieces, pieced}
 use Rattle.writing.proofs.Again.{compact-is}
 
@@ -42,11 +43,11 @@ exceeds-append (x ∷ a) b h = go (ltb 255 x) h (exceeds-append a b)
     go true h ih = absurd (let z : _≡_ {A = ℕ} 0 1 = cc in omega arith)
     go false h ih = ih h
 
-pub compact-held : (m : List ℕ) (w : ℕ) (s : Shape) (p : Parts) (qs : List Param) → s .vars ≤ 3 → AllOctets m → Compact m w s p qs → exceeds (marks (s .opt) (contentsIn s (saidBy m w p)) (partOf m (p .optional))) ≡ false
+pub compact-held : (m : List ℕ) (w : ℕ) (s : Shape) (p : Parts) (qs : List Param) → AllOctets m → Compact m w s p qs → exceeds (marks (s .opt) (contentsIn s (saidBy m w p)) (partOf m (p .optional))) ≡ false
 unfolding marks
-compact-held m w s p qs few o x =
+compact-held m w s p qs o x =
     let d = saidBy m w p in
-    let e = compact-is m w s p qs few x in
+    let e = compact-is m w s p qs x in
     let y : Pieces m (s .opt) (d .head) (d .kind) (d .fixed) (contentsIn s (saidBy m w p)) (d .run) =
     subst (λ (k : List ℕ). Pieces k (s .opt) (d .head) (d .kind) (d .fixed) (contentsIn s (saidBy m w p)) (d .run)) (sym e) (pieced (s .opt) (d .head) (d .kind) (d .fixed) (contentsIn s (saidBy m w p)) (d .run)) in
     exceeds-append _ _ (lengths-held m _ (contentsIn s (saidBy m w p)) o (y .contents))

@@ -1,11 +1,13 @@
-pub mod Pointers
 pub mod Storing
 pub mod Plain
 pub mod Outcome
-pub mod Judged
 pub mod Placed
 pub mod Back
+pub mod Taken
+pub mod Octets
+pub mod Judged
 pub mod Again
 pub mod Shorter
 pub mod Determined
 pub mod Held
+pub mod Refutations

@@ -1,32 +1,41 @@
--- What writing comes to, from what was tested on the way: a caller hands over what its calls ensure.
-use Prim.Native.Nat.{ℕ, _+_, _≤_, _<_}
+-- What writing comes to, from what was tested and measured on the way: a caller hands over what its calls ensure.
+use Prim.Native.Nat.{ℕ, _≤_, _<_}
 use mathlib.Core.Path.{_≡_, refl, sym, _∙_, ap}
-use mathlib.Core.Bool.{Bool, true, false}
+use mathlib.Core.Bool.{Bool, true, false, not}
 use mathlib.Core.List.{List}
 use native.Mathlib.Omega.{arith}
-use borrow.Author.Tests.{lt-ltb, le-ltb, ltb-true, ltb-false}
+use borrow.Author.Tests.{lt-ltb, le-ltb}
 use lib.Dec.{ltb}
 use lib.ListN.{length}
 use lib.Seq.{sets}
 use Rattle.octets.specs.Choice.{if_then_else_}
 use Rattle.octets.specs.Answer.{Answer, accepted, refused, _then_}
-use Rattle.octets.specs.Filled.{Done, done, leaving, filled, roomFor}
-use Rattle.octets.proofs.Answer.{past-test, refused-accepted, accepted-same}
+use Rattle.octets.specs.Filled.{leaving, filled}
 use Rattle.octets.proofs.Filled.{sets-filled}
 use Rattle.layout.specs.declared.Shape.{Shape}
-use Rattle.layout.specs.Run.{isRun}
-use Rattle.writing.specs.Write.{Order, contentsIn, octetsOf, unfitOf, marks, exceeds, writtenOf, writePartsOf, Fits}
-use Rattle.writing.specs.Plain.{pointerTooFar, tooFar, sizeOf, measured, pieces}
-use Rattle.writing.proofs.Pointers.{neither}
+use Rattle.runs.specs.Run.{isRun}
+use Rattle.measuring.specs.declared.Frame.{Frame}
+use Rattle.measuring.specs.Measure.{unfitOf, gap, unheld, tooLong, pointersOf, sizeOf, frameOf, measureOf}
+use Rattle.measuring.proofs.Near.{neither, beyond-not, gap-small, not-long, not-far}
+use Rattle.measuring.proofs.Outcome.{measured-frame}
+use Rattle.writing.specs.Write.{Order, lengthsOf, orderOctets, writtenOf, writePartsOf, Fits}
+use Rattle.writing.specs.Inside.{pieces, Near}
 use Rattle.writing.proofs.Plain.{fits-exactly, plain-octets, plain-size, plain-exceeds}
 
-pub near-all : (s : Shape) (a b c r : ℕ) → tooFar s a b c r ≡ false → (a ≤ 255) × (b ≤ 255) × (c ≤ 255) × (pointerTooFar s a b c r ≡ false)
-unfolding tooFar
-near-all s a b c r h =
-    let x = neither (ltb 255 a) _ h in
-    let y = neither (ltb 255 b) _ (x .1) in
-    let z = neither (ltb 255 c) _ (y .1) in
-    (ltb-false _ _ (x .0), ltb-false _ _ (y .0), ltb-false _ _ (z .0), z .1)
+-- the test of the run, as the code has it
+pub no-run : (t : Bool) {u : Bool} → t ≡ u → not t ≡ true → u ≡ false
+no-run true e h = absurd (let z : _≡_ {A = ℕ} 0 1 = cc in omega arith)
+no-run false e h = sym e
+
+pub a-run : (t : Bool) {u : Bool} → t ≡ u → not t ≡ false → u ≡ true
+a-run true e h = sym e
+a-run false e h = absurd (let z : _≡_ {A = ℕ} 0 1 = cc in omega arith)
+
+-- two tests, and then what is done with a frame
+tested : (t u : Bool) (f : Frame) (k : Frame → Answer (ℕ × List ℕ)) → (if t then refused 12 0 else if u then refused 2 0 else k f) ≡ ((if t then refused 12 0 else if u then refused 2 0 else accepted f) then k)
+tested true u f k = refl
+tested false true f k = refl
+tested false false f k = refl
 
 module _ (s : Shape) (most : ℕ) (o : Order) (buffer : List ℕ) where
   pub ten : unfitOf s (o .fixed) (o .first) (o .second) (o .third) (o .run) ≡ true → leaving (refused 10 0) buffer ≡ writePartsOf s most o buffer
@@ -38,57 +47,60 @@ module _ (s : Shape) (most : ℕ) (o : Order) (buffer : List ℕ) where
     unfolding writePartsOf writtenOf
     eleven h = rw (fit, h) refl
 
+    fitting : Fits s o
+    fitting = fits-exactly s o .0 fit
+
+    counted-octets : length (orderOctets s o) ≡ sizeOf s (lengthsOf o)
+    counted-octets = ap length (sym (plain-octets s o fitting)) ∙ plain-size s o fitting
+
     module _ (run : isRun (o .run) ≡ true) where
-      fitting : Fits s o
-      fitting = fits-exactly s o .0 fit
+      -- what is written has the frame that was measured
+      measured-written : writtenOf s most o ≡ (measureOf s most (lengthsOf o) then (λ f. accepted (f .size, orderOctets s o)))
+      unfolding writtenOf measureOf
+      measured-written = rw (fit, run, plain-exceeds s o fitting, counted-octets) (tested (unheld s (lengthsOf o)) (ltb most (sizeOf s (lengthsOf o))) (frameOf s (lengthsOf o)) (λ f. accepted (f .size, orderOctets s o)))
 
-      -- how many octets there are, as the code counts them
-      pub counted-octets : length (octetsOf s o) ≡ sizeOf s (length (o .head)) (s .fixed) (length (o .first)) (length (o .second)) (length (o .third)) (length (o .run))
-      counted-octets =
-          ap length (sym (plain-octets s o fitting)) ∙ plain-size s o fitting
-          ∙ ap (λ f. sizeOf s (length (o .head)) f (length (o .first)) (length (o .second)) (length (o .third)) (length (o .run))) (fitting .fixed)
+      pub unmeasured : (n : ℕ) → refused n 0 ≡ measureOf s most (lengthsOf o) → leaving (refused n 0) buffer ≡ writePartsOf s most o buffer
+      unfolding writePartsOf
+      unmeasured n e = rw (measured-written, sym e) refl
 
-      pub twelve : tooFar s (length (o .first)) (length (o .second)) (length (o .third)) (length (o .run)) ≡ true → leaving (refused 12 0) buffer ≡ writePartsOf s most o buffer
-      unfolding writePartsOf writtenOf
-      twelve h = rw (fit, run, plain-exceeds s o fitting ∙ h) refl
+      module _ (f : Frame) (e : accepted f ≡ measureOf s most (lengthsOf o)) where
+        framed : f ≡ frameOf s (lengthsOf o)
+        framed = measured-frame s most (lengthsOf o) f e .2
 
-      module _ (near : tooFar s (length (o .first)) (length (o .second)) (length (o .third)) (length (o .run)) ≡ false) where
-        small : exceeds (marks (s .opt) (contentsIn s o) (o .run)) ≡ false
-        small = plain-exceeds s o fitting ∙ near
+        all-pieces : pieces s f (o .head) (o .kind) (o .fixed) (o .first) (o .second) (o .third) (o .run) ≡ orderOctets s o
+        all-pieces = ap (λ (x : Frame). pieces s x (o .head) (o .kind) (o .fixed) (o .first) (o .second) (o .third) (o .run)) framed ∙ plain-octets s o fitting
 
-        over-or-not : (y : Answer ℕ) → y ≡ measured most (sizeOf s (length (o .head)) (s .fixed) (length (o .first)) (length (o .second)) (length (o .third)) (length (o .run)))
-            → y ≡ measured most (length (octetsOf s o))
-        over-or-not y e = e ∙ ap (measured most) (sym counted-octets)
+        sized : f .size ≡ length (orderOctets s o)
+        sized = ap (λ (x : Frame). x .size) framed ∙ sym counted-octets
 
-        pub over : (y : Answer ℕ) → y ≡ measured most (sizeOf s (length (o .head)) (s .fixed) (length (o .first)) (length (o .second)) (length (o .third)) (length (o .run)))
-            → y ≡ refused 2 0 → leaving (refused 2 0) buffer ≡ writePartsOf s most o buffer
-        unfolding writePartsOf writtenOf
-        over y e q = go (ltb most (length (octetsOf s o))) refl (sym q ∙ over-or-not y e)
-          where
-            go : (t : Bool) → ltb most (length (octetsOf s o)) ≡ t → refused 2 0 ≡ (if t then refused 2 0 else accepted (length (octetsOf s o))) → leaving (refused 2 0) buffer ≡ writePartsOf s most o buffer
-            go true e h = rw (fit, run, small, e) refl
-            go false e h = absurd (refused-accepted h)
+        pub thirteen : length buffer < f .size → leaving (refused 13 0) buffer ≡ writePartsOf s most o buffer
+        unfolding writePartsOf
+        thirteen h = let l : length buffer < length (orderOctets s o) = omega (arith, sized) in rw (measured-written, sym e, lt-ltb _ _ l) refl
 
-        -- so many octets fit the longest message
-        pub fits-longest : (y : Answer ℕ) (n : ℕ) → y ≡ measured most (sizeOf s (length (o .head)) (s .fixed) (length (o .first)) (length (o .second)) (length (o .third)) (length (o .run)))
-            → y ≡ accepted n → (n ≡ length (octetsOf s o)) × (ltb most (length (octetsOf s o)) ≡ false)
-        fits-longest y n e q =
-            let x = past-test 2 0 (ltb most (length (octetsOf s o))) (sym (over-or-not y e) ∙ q) in
-            (sym (accepted-same (x .1)), x .0)
+        near-pointers : Near s (pointersOf s (lengthsOf o))
+        unfolding unheld
+        near-pointers =
+            let x = neither (tooLong (lengthsOf o)) _ (measured-frame s most (lengthsOf o) f e .0) in
+            let y = not-far (s .vars) (pointersOf s (lengthsOf o)) (x .1) in
+            record {
+              first = beyond-not (ltb 0 (s .vars)) (gap s) (λ t. omega (arith, gap-small s));
+              second = y .0;
+              third = y .1;
+              last = beyond-not (s .opt) (pointersOf s (lengthsOf o) .last) (λ t. y .2);
+            }
 
-        pub thirteen : (n : ℕ) → (n ≡ length (octetsOf s o)) × (ltb most (length (octetsOf s o)) ≡ false) → length buffer < n → leaving (refused 13 0) buffer ≡ writePartsOf s most o buffer
-        unfolding writePartsOf writtenOf
-        thirteen n x h = let l : length buffer < length (octetsOf s o) = omega (arith, x .0) in rw (fit, run, small, x .1, lt-ltb _ _ l) refl
+        -- what storing requires
+        pub storable : f .size ≤ length buffer
+            → (length (pieces s f (o .head) (o .kind) (o .fixed) (o .first) (o .second) (o .third) (o .run)) ≤ length buffer) × Near s (f .pointers) × (length (o .first) ≤ 255) × (length (o .second) ≤ 255) × (length (o .third) ≤ 255)
+        unfolding unheld
+        storable h =
+            let n = not-long (lengthsOf o) (neither (tooLong (lengthsOf o)) _ (measured-frame s most (lengthsOf o) f e .0) .0) in
+            (omega (arith, sized, ap length all-pieces), rw framed near-pointers, n .0, n .1, n .2)
 
-        pub stored-room : (n : ℕ) → (n ≡ length (octetsOf s o)) × (ltb most (length (octetsOf s o)) ≡ false) → n ≤ length buffer
-            → length (pieces s (o .head) (o .kind) (o .fixed) (o .first) (o .second) (o .third) (o .run)) ≤ length buffer
-        stored-room n x h = omega (arith, x .0, ap length (plain-octets s o fitting))
-
-        pub wrote : (n : ℕ) (left : List ℕ) → (n ≡ length (octetsOf s o)) × (ltb most (length (octetsOf s o)) ≡ false) → n ≤ length buffer
-            → left ≡ sets buffer 0 (pieces s (o .head) (o .kind) (o .fixed) (o .first) (o .second) (o .third) (o .run))
-            → leaving (accepted n) left ≡ writePartsOf s most o buffer
-        unfolding writePartsOf writtenOf
-        wrote n left x h e =
-            let l : length (octetsOf s o) ≤ length buffer = omega (arith, x .0) in
-            let q : left ≡ filled (octetsOf s o) buffer = e ∙ ap (sets buffer 0) (plain-octets s o fitting) ∙ sets-filled (octetsOf s o) buffer l in
-            rw (fit, run, small, x .1, le-ltb _ _ l) (λ i. leaving (accepted (x .0 i)) (q i))
+        pub wrote : (left : List ℕ) → f .size ≤ length buffer → left ≡ sets buffer 0 (pieces s f (o .head) (o .kind) (o .fixed) (o .first) (o .second) (o .third) (o .run))
+            → leaving (accepted (f .size)) left ≡ writePartsOf s most o buffer
+        unfolding writePartsOf
+        wrote left h q =
+            let l : length (orderOctets s o) ≤ length buffer = omega (arith, sized) in
+            let k : left ≡ filled (orderOctets s o) buffer = q ∙ ap (sets buffer 0) all-pieces ∙ sets-filled (orderOctets s o) buffer l in
+            rw (measured-written, sym e, le-ltb _ _ l) (λ i. leaving (accepted (f .size)) (k i))

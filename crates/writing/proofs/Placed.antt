@@ -6,21 +6,15 @@ use mathlib.Core.List.{List, [], _∷_, _++_}
 use mathlib.Core.Logic.{_⊎_, inl, inr, ⊎-elim}
 use native.Mathlib.Omega.{arith}
 use native.Mathlib.Nat.{le-of-suc-le-suc}
-use native.Mathlib.Decide.{decLt}
-use borrow.Author.Tests.{lt-ltb}
-use lib.Dec.{ltb}
-use lib.ListN.{length, getD, take, length-append, List·getD-eq-default}
+use lib.ListN.{length, getD, length-append}
 use Rattle.octets.specs.Octet.{octet, octets}
-use Rattle.octets.proofs.Octet.{Within, within-octets, within-all, within-left, within-right, within-at, within-self, within-head, within-join, within-whole}
+use Rattle.octets.proofs.Octet.{Within, within-octets, within-left, within-right, within-at, within-self, within-head, within-join, within-whole}
 use Rattle.layout.specs.declared.Span.{Span}
-use Rattle.layout.specs.declared.Shape.{Shape}
-use Rattle.layout.specs.declared.Parts.{Parts}
-use Rattle.layout.specs.Run.{span, isRun}
-use Rattle.layout.specs.Container.{nothing, bit, startOf, endOf, contentsOf, runOf, held}
-use Rattle.layout.specs.Laid.{Points, Variable, Param, ParamAt, Params, Closes, Run, VariableSlot, OptionalSlot, Share, LaidOut}
-use Rattle.layout.proofs.Exactly.{is-run-exactly}
-use Rattle.writing.specs.Write.{Order, order, contentsIn, pointers, ahead, variables, runPointer, closedRun, gapOf, compactOf, octetsOf, Fits}
-use Rattle.writing.specs.Compact.{Tight, Compact, partOf, saidBy}
+use Rattle.layout.specs.Spans.{span}
+use Rattle.layout.specs.Container.{nothing, bit}
+use Rattle.layout.specs.Laid.{Variable, OptionalSlot, Share}
+use Rattle.runs.specs.Params.{Param, Params}
+use Rattle.writing.specs.Write.{pointers, ahead, variables, runPointer, closedRun, gapOf, formOf}
 
 -- where the variable parameters lie, the first at t
 unfoldable pub spansFrom : ℕ → List (List ℕ) → List Span
@@ -188,14 +182,14 @@ module _ (o : Bool) (head : List ℕ) (kind : ℕ) (fixed : List ℕ) (vs : List
   abbrev r₁ : List ℕ
   r₁ = (kind ∷ fixed) ++ r₂
 
-  pub pieced : Pieces (compactOf o head kind fixed vs r) o head kind fixed vs r
-  unfolding compactOf
+  pub pieced : Pieces (formOf o head kind fixed vs r) o head kind fixed vs r
+  unfolding formOf
   pieced =
-      let s₀ = within-self (compactOf o head kind fixed vs r) in
-      let s₁ : Within (compactOf o head kind fixed vs r) (length head) r₁ = within-at _ (omega arith) (within-right head r₁ s₀) in
-      let s₂ : Within (compactOf o head kind fixed vs r) (length head + 1 + length fixed) r₂ = within-at _ (omega arith) (within-right (kind ∷ fixed) r₂ s₁) in
-      let s₃ : Within (compactOf o head kind fixed vs r) (length head + 1 + length fixed + length vs) r₃ = within-at _ (omega (arith, length-pointers (gapOf o vs) vs)) (within-right ps r₃ s₂) in
-      let s₄ : Within (compactOf o head kind fixed vs r) (length head + 1 + length fixed + length vs + bit o) r₄ =
+      let s₀ = within-self (formOf o head kind fixed vs r) in
+      let s₁ : Within (formOf o head kind fixed vs r) (length head) r₁ = within-at _ (omega arith) (within-right head r₁ s₀) in
+      let s₂ : Within (formOf o head kind fixed vs r) (length head + 1 + length fixed) r₂ = within-at _ (omega arith) (within-right (kind ∷ fixed) r₂ s₁) in
+      let s₃ : Within (formOf o head kind fixed vs r) (length head + 1 + length fixed + length vs) r₃ = within-at _ (omega (arith, length-pointers (gapOf o vs) vs)) (within-right ps r₃ s₂) in
+      let s₄ : Within (formOf o head kind fixed vs r) (length head + 1 + length fixed + length vs + bit o) r₄ =
       within-at _ (omega (arith, length-run-pointer o (ahead (gapOf o vs) vs) r)) (within-right lp r₄ s₃) in
       record {
         heads = within-left head r₁ s₀;
@@ -218,8 +212,8 @@ module _ (o : Bool) (head : List ℕ) (kind : ℕ) (fixed : List ℕ) (vs : List
       }
 
   -- a message whose pieces stand so is the compact form
-  pub assembled : {m : List ℕ} → Pieces m o head kind fixed vs r → m ≡ compactOf o head kind fixed vs r
-  unfolding compactOf
+  pub assembled : {m : List ℕ} → Pieces m o head kind fixed vs r → m ≡ formOf o head kind fixed vs r
+  unfolding formOf
   assembled x =
       let np = length-pointers (gapOf o vs) vs in
       let nl = length-run-pointer o (ahead (gapOf o vs) vs) r in

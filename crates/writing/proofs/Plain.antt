@@ -2,20 +2,21 @@
 use Prim.Native.Nat.{ℕ, zero, suc, _+_, _≤_, _<_}
 use mathlib.Core.Path.{_≡_, refl, sym, _∙_, ap}
 use mathlib.Core.Bool.{Bool, true, false}
-use mathlib.Core.List.{List, [], _∷_, _++_, map, append-assoc, append-nil}
-use mathlib.Core.Logic.{_⊎_, inl, inr, ⊎-elim, _↔_}
+use mathlib.Core.List.{List, [], _∷_, _++_, append-assoc, append-nil}
+use mathlib.Core.Logic.{⊎-elim, _↔_}
 use native.Mathlib.Omega.{arith}
-use borrow.Author.Tests.{lt-ltb, le-ltb, eq-eqb, ltb-true, ltb-false, eqb-true, eqb-false}
+use borrow.Author.Tests.{lt-ltb, le-ltb, eq-eqb, ltb-false, eqb-true}
 use lib.Dec.{ltb, eqb}
 use lib.ListN.{length, take, length-append}
 use lib.Seq.{take-nil}
 use Rattle.octets.specs.Choice.{if_then_else_}
-use Rattle.octets.proofs.Choice.{chosen, decided}
+use Rattle.octets.proofs.Choice.{chosen}
 use Rattle.layout.specs.declared.Shape.{Shape}
 use Rattle.layout.specs.Container.{bit}
-use Rattle.writing.specs.Write.{Order, order, contentsIn, pointers, ahead, variables, runPointer, closedRun, gapOf, compactOf, octetsOf, lacksOf, unfitOf, marks, exceeds, Fits}
-use Rattle.writing.specs.Plain.{countOf, gap, beyondOf, pointerTooFar, tooFar, runSize, sizeOf, pointerIf, partIf, reach, headPieces, pointerPieces, partPieces, pieces}
-use Rattle.writing.proofs.Pointers.{neither}
+use Rattle.measuring.specs.Measure.{lacksOf, unfitOf, countOf, gap, reach, pointersOf, tooLong, tooFar, unheld, runSize, sizeOf, frameOf}
+use Rattle.measuring.proofs.Near.{neither}
+use Rattle.writing.specs.Write.{Order, lengthsOf, contentsIn, pointers, ahead, variables, runPointer, closedRun, gapOf, formOf, orderOctets, marks, exceeds, Fits}
+use Rattle.writing.specs.Inside.{pointerIf, partIf, headPieces, partPieces, pieces}
 
 empty-of : (c : List ℕ) → length c ≤ 0 → c ≡ []
 empty-of [] h = refl
@@ -42,12 +43,14 @@ fits-exactly s o = (there, back)
   where
     there : unfitOf s (o .fixed) (o .first) (o .second) (o .third) (o .run) ≡ false → Fits s o
     there h =
+        let few = neither (ltb 3 (s .vars)) _ h in
         ⊎-elim
         (λ t.
         let a = neither (lacksOf (s .vars) 0 (o .first)) _ (t .1) in
         let b = neither (lacksOf (s .vars) 1 (o .second)) _ (a .1) in
         let c = neither (lacksOf (s .vars) 2 (o .third)) _ (b .1) in
         record {
+          few = ltb-false _ _ (few .0);
           fixed = eqb-true _ _ (t .0);
           first = lacks-not (s .vars) 0 (o .first) (a .0);
           second = lacks-not (s .vars) 1 (o .second) (b .0);
@@ -55,12 +58,12 @@ fits-exactly s o = (there, back)
           run = λ e. empty-of (o .run) (ltb-false 0 (length (o .run)) (simp e at (c .1)));
         })
         (λ f. absurd (let e = f .1 in let z : _≡_ {A = ℕ} 0 1 = cc in omega arith))
-        (chosen (eqb (length (o .fixed)) (s .fixed)) h)
+        (chosen (eqb (length (o .fixed)) (s .fixed)) (few .1))
 
     back : Fits s o → unfitOf s (o .fixed) (o .first) (o .second) (o .third) (o .run) ≡ false
     back f =
         let last : (t : Bool) → s .opt ≡ t → (if t then false else ltb 0 (length (o .run))) ≡ false = (λ t e. run-last (s .opt) (o .run) (f .run) t e) in
-        simp (eq-eqb _ _ (f .fixed), not-lacks (s .vars) 0 (o .first) (f .first), not-lacks (s .vars) 1 (o .second) (f .second), not-lacks (s .vars) 2 (o .third) (f .third))
+        simp (le-ltb _ _ (f .few), eq-eqb _ _ (f .fixed), not-lacks (s .vars) 0 (o .first) (f .first), not-lacks (s .vars) 1 (o .second) (f .second), not-lacks (s .vars) 2 (o .third) (f .third))
         (last (s .opt) refl)
 
 -- how many variable parts there are: 0, 1, 2, or three
@@ -122,8 +125,8 @@ module _ (o : Bool) (a b c r : List ℕ) where
       ∙ ap (λ l. (length a ∷ a) ++ l) (append-assoc (length b ∷ b) ((length c ∷ c) ++ []) (closedRun r) ∙ ap (λ l. (length b ∷ b) ++ ((length c ∷ l) ++ closedRun r)) (append-nil c)))
 
 -- the pieces as they are stored are the compact form
-pub plain-octets : (s : Shape) (o : Order) → Fits s o → pieces s (o .head) (o .kind) (o .fixed) (o .first) (o .second) (o .third) (o .run) ≡ octetsOf s o
-unfolding compactOf
+pub plain-octets : (s : Shape) (o : Order) → Fits s o → pieces s (frameOf s (lengthsOf o)) (o .head) (o .kind) (o .fixed) (o .first) (o .second) (o .third) (o .run) ≡ orderOctets s o
+unfolding formOf
 plain-octets s o f =
     let n = counted (s .vars) in
     let p = plain-pointers (s .opt) (o .first) (o .second) (o .third) (o .run) (s .vars) (counted (s .vars)) (f .first) (f .second) (f .third) in
@@ -155,7 +158,7 @@ count-bits n two = refl
 count-bits n (more k) = simp (three₀ k, three₁ k, three₂ k, three₃ k)
 
 pub plain-size : (s : Shape) (o : Order) → Fits s o
-    → length (pieces s (o .head) (o .kind) (o .fixed) (o .first) (o .second) (o .third) (o .run)) ≡ sizeOf s (length (o .head)) (length (o .fixed)) (length (o .first)) (length (o .second)) (length (o .third)) (length (o .run))
+    → length (pieces s (frameOf s (lengthsOf o)) (o .head) (o .kind) (o .fixed) (o .first) (o .second) (o .third) (o .run)) ≡ sizeOf s (lengthsOf o)
 plain-size s o f =
     let n = s .vars in
     let la = length (o .first) in
@@ -192,48 +195,59 @@ plain-size s o f =
       part-length (ltb 2 n) (o .third) (λ e. f .third (ltb-false _ _ e)),
       closed-length (o .run),
       count-bits n (counted n),
+      f .fixed,
     )
 
 -- ---- 12 in plain numbers
-last-exceeds : (o : Bool) (r : List ℕ) (g : ℕ) → (o ≡ false → r ≡ []) → exceeds (pointerIf o (reach (length r) g)) ≡ beyondOf (ltb 0 (length r)) g
+last-exceeds : (o : Bool) (r : List ℕ) (g : ℕ) → (o ≡ false → r ≡ []) → exceeds (pointerIf o (reach (length r) g)) ≡ ltb 255 (reach (length r) g)
 unfolding exceeds
 last-exceeds false r g h = rw (h refl) refl
-last-exceeds true r g h = go (ltb 0 (length r))
+last-exceeds true r g h = both (ltb 255 (reach (length r) g))
   where
     both : (t : Bool) → (if t then true else false) ≡ t
     both true = refl
     both false = refl
 
-    go : (t : Bool) → (if ltb 255 (if t then g else 0) then true else false) ≡ (if t then ltb 255 g else false)
-    go true = both (ltb 255 g)
-    go false = refl
-
 first-within : (o : Bool) (k : ℕ) (x : Bool) → k ≤ 3 → (if ltb 255 (k + bit o) then true else x) ≡ x
 first-within true k x h = let l : k + 1 ≤ 255 = omega arith in simp (le-ltb _ _ l)
 first-within false k x h = let l : k + 0 ≤ 255 = omega arith in simp (le-ltb _ _ l)
 
-module _ (o : Bool) (a b c r : List ℕ) (hr : o ≡ false → r ≡ []) where
-  last : (g h : ℕ) → g ≡ h → exceeds (runPointer o g r) ≡ beyondOf (ltb 0 (length r)) h
-  last g h e = ap exceeds (run-pointer o g r) ∙ last-exceeds o r g hr ∙ ap (beyondOf (ltb 0 (length r))) e
+-- one of three, or a fourth
+three-or : (t u v w : Bool) → (if t then true else if u then true else if v then true else w) ≡ (if (if t then true else if u then true else v) then true else w)
+three-or true u v w = refl
+three-or false true v w = refl
+three-or false false v w = refl
 
-  pub plain-marks : (n f : ℕ) → Count n → (n ≤ 0 → a ≡ []) → (n ≤ 1 → b ≡ []) → (n ≤ 2 → c ≡ [])
-      → exceeds (marks o (take n (a ∷ b ∷ c ∷ [])) r) ≡ tooFar (record { fixed = f; vars = n; opt = o }) (length a) (length b) (length c) (length r)
-  unfolding marks pointers ahead exceeds tooFar pointerTooFar
-  plain-marks n f none ha hb hc = rw (ha (omega arith), hb (omega arith), hc (omega arith)) (last (0 + bit o) (0 + bit o + 0 + 0 + 0) (omega arith))
-  plain-marks n f one ha hb hc =
+module _ (o : Bool) (a b c r : List ℕ) (hr : o ≡ false → r ≡ []) where
+  last : (g h : ℕ) → g ≡ h → exceeds (runPointer o g r) ≡ ltb 255 (reach (length r) h)
+  last g h e = ap exceeds (run-pointer o g r) ∙ last-exceeds o r g hr ∙ ap (λ x. ltb 255 (reach (length r) x)) e
+
+  plain-marks : (n : ℕ) → Count n → (n ≤ 0 → a ≡ []) → (n ≤ 1 → b ≡ []) → (n ≤ 2 → c ≡ [])
+      → exceeds (marks o (take n (a ∷ b ∷ c ∷ [])) r)
+      ≡ (if ltb 255 (length a) then true else if ltb 255 (length b) then true else if ltb 255 (length c) then true else tooFar n (record {
+        first = countOf n + bit o;
+        second = countOf n + bit o + length a;
+        third = countOf n + bit o + length a + length b;
+        last = reach (length r) (countOf n + bit o + length a + length b + length c);
+      }))
+  unfolding marks pointers ahead exceeds tooFar
+  plain-marks n none ha hb hc = rw (ha (omega arith), hb (omega arith), hc (omega arith)) (last (0 + bit o) (0 + bit o + 0 + 0 + 0) (omega arith))
+  plain-marks n one ha hb hc =
       rw (hb (omega arith), hc (omega arith))
       (ap (λ x. if ltb 255 (length a) then true else x) (first-within o 1 (exceeds (runPointer o (1 + bit o + length a) r)) (omega arith) ∙ last (1 + bit o + length a) (1 + bit o + length a + 0 + 0) (omega arith)))
-  plain-marks n f two ha hb hc =
+  plain-marks n two ha hb hc =
       rw (hc (omega arith))
-      (ap (λ x. if ltb 255 (length a) then true else (if ltb 255 (length b) then true else x))
+      (ap (λ x. if ltb 255 (length a) then true else if ltb 255 (length b) then true else x)
       (first-within o 2 (if ltb 255 (2 + bit o + length a) then true else exceeds (runPointer o (2 + bit o + length a + length b) r)) (omega arith)
       ∙ ap (λ x. if ltb 255 (2 + bit o + length a) then true else x) (last (2 + bit o + length a + length b) (2 + bit o + length a + length b + 0) (omega arith))))
-  plain-marks n f (more k) ha hb hc =
+  plain-marks n (more k) ha hb hc =
       simp (take-nil {A = List ℕ} k, three₁ k, three₂ k, three₃ k)
-      (ap (λ x. if ltb 255 (length a) then true else (if ltb 255 (length b) then true else (if ltb 255 (length c) then true else x)))
-      (first-within o 3 (if ltb 255 (3 + bit o + length a) then true else (if ltb 255 (3 + bit o + length a + length b) then true else exceeds (runPointer o (3 + bit o + length a + length b + length c) r))) (omega arith)
-      ∙ ap (λ x. if ltb 255 (3 + bit o + length a) then true else (if ltb 255 (3 + bit o + length a + length b) then true else x)) (last (3 + bit o + length a + length b + length c) (3 + bit o + length a + length b + length c) refl)))
+      (ap (λ x. if ltb 255 (length a) then true else if ltb 255 (length b) then true else if ltb 255 (length c) then true else x)
+      (first-within o 3 (if ltb 255 (3 + bit o + length a) then true else if ltb 255 (3 + bit o + length a + length b) then true else exceeds (runPointer o (3 + bit o + length a + length b + length c) r)) (omega arith)
+      ∙ ap (λ x. if ltb 255 (3 + bit o + length a) then true else if ltb 255 (3 + bit o + length a + length b) then true else x) (last (3 + bit o + length a + length b + length c) (3 + bit o + length a + length b + length c) refl)))
 
-pub plain-exceeds : (s : Shape) (o : Order) → Fits s o
-    → exceeds (marks (s .opt) (contentsIn s o) (o .run)) ≡ tooFar s (length (o .first)) (length (o .second)) (length (o .third)) (length (o .run))
-plain-exceeds s o f = plain-marks (s .opt) (o .first) (o .second) (o .third) (o .run) (f .run) (s .vars) (s .fixed) (counted (s .vars)) (f .first) (f .second) (f .third)
+pub plain-exceeds : (s : Shape) (o : Order) → Fits s o → exceeds (marks (s .opt) (contentsIn s o) (o .run)) ≡ unheld s (lengthsOf o)
+unfolding unheld tooLong
+plain-exceeds s o f =
+    plain-marks (s .opt) (o .first) (o .second) (o .third) (o .run) (f .run) (s .vars) (counted (s .vars)) (f .first) (f .second) (f .third)
+    ∙ three-or (ltb 255 (length (o .first))) (ltb 255 (length (o .second))) (ltb 255 (length (o .third))) (tooFar (s .vars) (pointersOf s (lengthsOf o)))

@@ -1,31 +1,30 @@
 -- What a message says, written again, is never longer than the message: so nothing but 12 can stand against it.
-use Prim.Native.Nat.{ℕ, zero, suc, _+_, _-_, _≤_, _<_}
-use mathlib.Core.Path.{_≡_, refl, sym, _∙_, ap, subst}
+use Prim.Native.Nat.{ℕ, _+_, _-_, _≤_, _<_}
+use mathlib.Core.Path.{_≡_, refl, sym, _∙_, ap}
 use mathlib.Core.Bool.{Bool, true, false}
 use mathlib.Core.List.{List, [], _∷_, _++_}
 use mathlib.Core.Logic.{_⊎_, inl, inr, ⊎-elim}
 use native.Mathlib.Omega.{arith}
 use borrow.Author.Tests.{lt-ltb, le-ltb}
-use lib.Dec.{ltb}
 use lib.ListN.{length, take, length-append}
 use lib.Seq.{length-take-le, take-nil}
-use Rattle.octets.specs.Octet.{octet, octets}
-use Rattle.octets.specs.Choice.{if_then_else_}
-use Rattle.octets.specs.Answer.{Answer, accepted, refused}
+use Rattle.octets.specs.Octet.{octet}
+use Rattle.octets.specs.Answer.{accepted, refused}
 use Rattle.octets.proofs.Choice.{decided}
 use Rattle.octets.proofs.Octet.{length-octets}
-use Rattle.octets.proofs.Counting.{total, inside, inside-no, inside-or, total-past, total-span, total-add, total-most}
+use Rattle.octets.proofs.Counting.{total, inside, inside-or, total-past, total-span, total-add, total-most}
 use Rattle.layout.specs.declared.Span.{Span}
 use Rattle.layout.specs.declared.Shape.{Shape}
 use Rattle.layout.specs.declared.Parts.{Parts}
-use Rattle.layout.specs.Run.{isRun}
-use Rattle.layout.specs.Container.{nothing, bit, startOf, endOf, contentsOf, runOf, held}
-use Rattle.layout.specs.Laid.{Variable, Param, Params, VariableSlot, OptionalSlot, In, Share, AllApart, LaidOut}
-use Rattle.layout.proofs.Runs.{params-on}
-use Rattle.writing.specs.Write.{Order, contentsIn, variables, closedRun, compactOf, octetsOf, unfitOf, marks, exceeds, writtenOf, Fits}
-use Rattle.writing.specs.Compact.{partOf, saidWith}
+use Rattle.layout.specs.Container.{nothing, startOf, endOf, contentsOf, runOf, held}
+use Rattle.runs.specs.Params.{Param}
+use Rattle.layout.specs.Laid.{VariableSlot, OptionalSlot, In, Share, AllApart, LaidOut}
+use Rattle.runs.proofs.Runs.{params-on}
+use Rattle.writing.specs.Write.{contentsIn, variables, closedRun, orderOctets, marks, exceeds, writtenOf}
+use Rattle.layout.specs.Spans.{partOf}
+use Rattle.writing.specs.Compact.{saidWith}
 use Rattle.writing.proofs.Plain.{Count, none, one, two, more, counted, fits-exactly}
-use Rattle.writing.proofs.Placed.{Pieces, pieced}
+use Rattle.writing.proofs.Placed.{pieced}
 use Rattle.writing.proofs.Again.{said-fits, said-run, variable-contents}
 
 abbrev size : Span → ℕ
@@ -136,9 +135,9 @@ run-size o m e qs s x = go (partOf m (runOf s)) refl
         (held-size o x)
 
 -- what a message says, written again, has no more octets than the message
-pub no-longer : (m : List ℕ) (w : ℕ) (s : Shape) (p : Parts) (qs : List Param) (head : List ℕ) → length head ≡ w → s .vars ≤ 3 → LaidOut m w s p qs → length (octetsOf s (saidWith head m w p)) ≤ length m
+pub no-longer : (m : List ℕ) (w : ℕ) (s : Shape) (p : Parts) (qs : List Param) (head : List ℕ) → length head ≡ w → LaidOut m w s p qs → length (orderOctets s (saidWith head m w p)) ≤ length m
 unfolding held
-no-longer m w s p qs head nh few l =
+no-longer m w s p qs head nh l =
     let e = endOf w s in
     let n = length m - endOf w s in
     let ff = four-fit (l .a) (l .b) (l .c) (l .d) (l .apart) (endOf w s) (length m - endOf w s)
@@ -148,7 +147,7 @@ no-longer m w s p qs head nh few l =
     (optional-lies (s .opt) m (endOf w s) qs (l .d) (l .whole) (l .optional)) in
     let o = saidWith head m w p in
     let pe = pieced (s .opt) head (octet m w) (partOf m (p .fixed)) (contentsIn s (saidWith head m w p)) (partOf m (p .optional)) .ending in
-    let nv : length (contentsIn s (saidWith head m w p)) ≡ s .vars = length-take-le (s .vars) _ few in
+    let nv : length (contentsIn s (saidWith head m w p)) ≡ s .vars = length-take-le (s .vars) _ (l .few) in
     let nf : length (partOf m (p .fixed)) ≡ s .fixed = said-fits m w s p qs l head .fixed in
     let vz : length (variables (contentsIn s (saidWith head m w p))) ≤ size (l .a) + (size (l .b) + size (l .c)) =
     rw (l .holds) (variables-size m (endOf w s) (startOf w s) (s .vars) (l .a) (l .b) (l .c) (counted (s .vars)) (l .first) (l .second) (l .third)) in
@@ -156,14 +155,14 @@ no-longer m w s p qs head nh few l =
     omega (arith, l .whole)
 
 -- reading and writing again gives the compact form, or 12 where that form cannot hold a length or a pointer, and nothing else
-pub again-or-twelve : (m : List ℕ) (w most : ℕ) (s : Shape) (p : Parts) (qs : List Param) (head : List ℕ) → length head ≡ w → s .vars ≤ 3 → LaidOut m w s p qs → length m ≤ most
+pub again-or-twelve : (m : List ℕ) (w most : ℕ) (s : Shape) (p : Parts) (qs : List Param) (head : List ℕ) → length head ≡ w → LaidOut m w s p qs → length m ≤ most
     → ((exceeds (marks (s .opt) (contentsIn s (saidWith head m w p)) (partOf m (p .optional))) ≡ true) × (writtenOf s most (saidWith head m w p) ≡ refused 12 0))
-    ⊎ ((exceeds (marks (s .opt) (contentsIn s (saidWith head m w p)) (partOf m (p .optional))) ≡ false) × (writtenOf s most (saidWith head m w p) ≡ accepted (length (octetsOf s (saidWith head m w p)), octetsOf s (saidWith head m w p))))
+    ⊎ ((exceeds (marks (s .opt) (contentsIn s (saidWith head m w p)) (partOf m (p .optional))) ≡ false) × (writtenOf s most (saidWith head m w p) ≡ accepted (length (orderOctets s (saidWith head m w p)), orderOctets s (saidWith head m w p))))
 unfolding writtenOf
-again-or-twelve m w most s p qs head nh few l h =
+again-or-twelve m w most s p qs head nh l h =
     let f = fits-exactly s (saidWith head m w p) .1 (said-fits m w s p qs l head) in
     let r = said-run m w s p qs l in
-    let k : length (octetsOf s (saidWith head m w p)) ≤ most = omega (arith, no-longer m w s p qs head nh few l) in
+    let k : length (orderOctets s (saidWith head m w p)) ≤ most = omega (arith, no-longer m w s p qs head nh l) in
     ⊎-elim
     (λ t. inl (t, rw (f, r, t) refl))
     (λ t. inr (t, rw (f, r, t, le-ltb _ _ k) refl))

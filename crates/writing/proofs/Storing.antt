@@ -1,5 +1,5 @@
 -- Pieces stored one after the other are their join.
-use Prim.Native.Nat.{ℕ, zero, suc, _+_, _≤_, _<_}
+use Prim.Native.Nat.{ℕ, suc, _+_, _≤_, _<_}
 use mathlib.Core.Path.{_≡_, refl, sym, _∙_, ap}
 use mathlib.Core.List.{List, [], _∷_, _++_}
 use native.Mathlib.Omega.{arith}
@@ -10,8 +10,9 @@ use mathlib.Core.Bool.{Bool, true, false}
 use Rattle.writing.specs.Write.{closedRun}
 use lib.Dec.{ltb}
 use Rattle.layout.specs.declared.Shape.{Shape}
-use Rattle.writing.specs.Plain.{gap, beyondOf, pointerTooFar, reach, pointerPieces, Stored, pointerIf, partIf}
-use Rattle.writing.proofs.Pointers.{first-near, second-near, third-near, optional-near}
+use Rattle.measuring.specs.declared.Pointers.{Pointers}
+use Rattle.measuring.specs.Measure.{beyondOf}
+use Rattle.writing.specs.Inside.{pointerPieces, Near, Stored, pointerIf, partIf}
 
 sets-at : (l : List ℕ) {i j : ℕ} (b : List ℕ) → i ≡ j → sets l i b ≡ sets l j b
 sets-at l b e = ap (λ k. sets l k b) e
@@ -76,49 +77,34 @@ unfolding closedRun
 closed-run [] h = absurd (h refl)
 closed-run (x ∷ xs) h = refl
 
--- the pointers, one after the other: a caller hands over what its calls ensure. g is the first pointer and z the last, as they were computed
-module _ (s : Shape) (a b c r at : ℕ) (l : List ℕ) (g : ℕ) (eg : g ≡ gap s) (z : ℕ) (ez : z ≡ reach r (g + a + b + c))
-    (room : at + length (pointerPieces s a b c r) ≤ length l) (near : pointerTooFar s a b c r ≡ false) where
+-- the pointers, one after the other: a caller hands over what its calls ensure
+module _ (s : Shape) (x : Pointers) (at : ℕ) (l : List ℕ) (room : at + length (pointerPieces s x) ≤ length l) (near : Near s x) where
   one : List ℕ
-  one = pointerIf (ltb 0 (s .vars)) g
+  one = pointerIf (ltb 0 (s .vars)) (x .first)
 
   two : List ℕ
-  two = pointerIf (ltb 1 (s .vars)) (g + a)
+  two = pointerIf (ltb 1 (s .vars)) (x .second)
 
   three : List ℕ
-  three = pointerIf (ltb 2 (s .vars)) (g + a + b)
+  three = pointerIf (ltb 2 (s .vars)) (x .third)
 
   four : List ℕ
-  four = pointerIf (s .opt) z
+  four = pointerIf (s .opt) (x .last)
 
-  whole : pointerPieces s a b c r ≡ one ++ (two ++ (three ++ four))
+  pub pointers-room₁ : (at + length (pointerIf (ltb 0 (s .vars)) (x .first)) ≤ length l) × (beyondOf (ltb 0 (s .vars)) (x .first) ≡ false)
   unfolding one two three four
-  whole = rw (ez, eg) refl
+  pointers-room₁ = (room-first one (two ++ (three ++ four)) at (length l) room, near .first)
 
-  whole-room : at + length (one ++ (two ++ (three ++ four))) ≤ length l
-  whole-room = rw whole at room
-
-  pub pointers-room₁ : (at + length (pointerIf (ltb 0 (s .vars)) g) ≤ length l) × (beyondOf (ltb 0 (s .vars)) g ≡ false)
-  unfolding one
-  pointers-room₁ = (room-first one (two ++ (three ++ four)) at (length l) whole-room, rw eg (first-near s))
-
-  pub pointers-room₂ : {k : List ℕ} {p : ℕ} → Stored l at (pointerIf (ltb 0 (s .vars)) g) p k → (p + length (pointerIf (ltb 1 (s .vars)) (g + a)) ≤ length k) × (beyondOf (ltb 1 (s .vars)) (g + a) ≡ false)
-  unfolding one two
-  pointers-room₂ {k} {p} x = (room-first two (three ++ four) p (length k) (room-after (two ++ (three ++ four)) x whole-room), rw eg (second-near s a b c r near))
-
-  pub pointers-room₃ : {k m : List ℕ} {p q : ℕ} → Stored l at (pointerIf (ltb 0 (s .vars)) g) p k → Stored k p (pointerIf (ltb 1 (s .vars)) (g + a)) q m
-      → (q + length (pointerIf (ltb 2 (s .vars)) (g + a + b)) ≤ length m) × (beyondOf (ltb 2 (s .vars)) (g + a + b) ≡ false)
-  unfolding one two three
-  pointers-room₃ {k} {m} {p} {q} x y =
-      (room-first three four q (length m) (room-after (three ++ four) y (room-after (two ++ (three ++ four)) x whole-room)), rw eg (third-near s a b c r near))
-
-  pub pointers-room₄ : {k m n : List ℕ} {p q t : ℕ} → Stored l at (pointerIf (ltb 0 (s .vars)) g) p k → Stored k p (pointerIf (ltb 1 (s .vars)) (g + a)) q m
-      → Stored m q (pointerIf (ltb 2 (s .vars)) (g + a + b)) t n → (t + length (pointerIf (s .opt) z) ≤ length n) × (beyondOf (s .opt) z ≡ false)
+  pub pointers-room₂ : {k : List ℕ} {p : ℕ} → Stored l at (pointerIf (ltb 0 (s .vars)) (x .first)) p k → (p + length (pointerIf (ltb 1 (s .vars)) (x .second)) ≤ length k) × (beyondOf (ltb 1 (s .vars)) (x .second) ≡ false)
   unfolding one two three four
-  pointers-room₄ x y w =
-      (room-after four w (room-after (three ++ four) y (room-after (two ++ (three ++ four)) x whole-room)), rw (ez, eg) (optional-near s a b c r near))
+  pointers-room₂ {k} {p} y = (room-first two (three ++ four) p (length k) (room-after (two ++ (three ++ four)) y room), near .second)
 
-  pub pointers-stored : {k m n o : List ℕ} {p q t u : ℕ} → Stored l at (pointerIf (ltb 0 (s .vars)) g) p k → Stored k p (pointerIf (ltb 1 (s .vars)) (g + a)) q m
-      → Stored m q (pointerIf (ltb 2 (s .vars)) (g + a + b)) t n → Stored n t (pointerIf (s .opt) z) u o → Stored l at (pointerPieces s a b c r) u o
+  pub pointers-room₃ : {k m : List ℕ} {p q : ℕ} → Stored l at (pointerIf (ltb 0 (s .vars)) (x .first)) p k → Stored k p (pointerIf (ltb 1 (s .vars)) (x .second)) q m
+      → (q + length (pointerIf (ltb 2 (s .vars)) (x .third)) ≤ length m) × (beyondOf (ltb 2 (s .vars)) (x .third) ≡ false)
   unfolding one two three four
-  pointers-stored x y w v = rw whole (stored-join x (stored-join y (stored-join w v)))
+  pointers-room₃ {k} {m} {p} {q} y z = (room-first three four q (length m) (room-after (three ++ four) z (room-after (two ++ (three ++ four)) y room)), near .third)
+
+  pub pointers-room₄ : {k m n : List ℕ} {p q t : ℕ} → Stored l at (pointerIf (ltb 0 (s .vars)) (x .first)) p k → Stored k p (pointerIf (ltb 1 (s .vars)) (x .second)) q m
+      → Stored m q (pointerIf (ltb 2 (s .vars)) (x .third)) t n → (t + length (pointerIf (s .opt) (x .last)) ≤ length n) × (beyondOf (s .opt) (x .last) ≡ false)
+  unfolding one two three four
+  pointers-room₄ y z w = (room-after four w (room-after (three ++ four) z (room-after (two ++ (three ++ four)) y room)), near .last)

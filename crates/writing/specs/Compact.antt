@@ -1,7 +1,6 @@
 -- The compact form, declared with no algorithm: the parts follow the pointers and one another with nothing between or after, and the optional pointer is 0 if there are no optional parameters.
-use Prim.Native.Nat.{ℕ, _+_, _-_, _≤_, _<_}
+use Prim.Native.Nat.{ℕ, _<_}
 use mathlib.Core.Path.{_≡_}
-use mathlib.Core.Bool.{Bool, true, false}
 use mathlib.Core.List.{List, [], _∷_}
 use mathlib.Core.Logic.{_⊎_}
 use lib.ListN.{length}
@@ -9,8 +8,10 @@ use Rattle.octets.specs.Octet.{octet, octets}
 use Rattle.layout.specs.declared.Span.{Span}
 use Rattle.layout.specs.declared.Shape.{Shape}
 use Rattle.layout.specs.declared.Parts.{Parts}
+use Rattle.layout.specs.Spans.{partOf}
 use Rattle.layout.specs.Container.{nothing, endOf}
-use Rattle.layout.specs.Laid.{Param, LaidOut}
+use Rattle.runs.specs.Params.{Param}
+use Rattle.layout.specs.Laid.{LaidOut}
 use Rattle.writing.specs.Write.{Order, order}
 
 -- from octet e on these spans follow one another, the last octet of the last before z; a part that is not there takes no octet
@@ -23,10 +24,6 @@ pub record Compact (m : List ℕ) (w : ℕ) (s : Shape) (p : Parts) (qs : List P
   pub laid : LaidOut m w s p qs
   pub tight : Tight (endOf w s) (laid .a ∷ laid .b ∷ laid .c ∷ laid .d ∷ []) (length m)
   pub dropped : qs ≡ [] → laid .d ≡ nothing
-
--- the octets of a span
-abbrev pub partOf : List ℕ → Span → List ℕ
-partOf m s = octets m (s .from) (s .to - s .from)
 
 -- what a message says whose parts are these, with that header: type, fixed octets, variable contents, optional run
 abbrev pub saidWith : List ℕ → List ℕ → ℕ → Parts → Order

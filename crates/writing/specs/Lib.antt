@@ -1,5 +1,4 @@
 pub mod Write
-pub mod Plain
-pub mod Told
 pub mod Compact
 pub mod Faults
+pub mod Inside

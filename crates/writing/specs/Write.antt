@@ -5,13 +5,15 @@ use mathlib.Core.Path.{_≡_}
 use mathlib.Core.Bool.{Bool, true, false}
 use mathlib.Core.List.{List, [], _∷_, _++_, map}
 use lib.ListN.{length, take}
-use lib.Dec.{ltb, eqb}
+use lib.Dec.{ltb}
 use Rattle.octets.specs.Choice.{if_then_else_}
 use Rattle.octets.specs.Answer.{Answer, accepted, refused, _then_}
 use Rattle.octets.specs.Filled.{Done, done, roomFor}
 use Rattle.layout.specs.declared.Shape.{Shape}
-use Rattle.layout.specs.Run.{isRun}
+use Rattle.runs.specs.Run.{isRun}
 use Rattle.layout.specs.Container.{bit}
+use Rattle.measuring.specs.declared.Lengths.{Lengths}
+use Rattle.measuring.specs.Measure.{unfitOf}
 
 -- what is to be written: an unused content is empty, and the run has no closing 0
 pub record Order : Type 0 where
@@ -23,8 +25,19 @@ pub record Order : Type 0 where
   pub third : List ℕ
   pub run : List ℕ
 
+-- the order with these parts
 abbrev pub order : List ℕ → ℕ → List ℕ → List ℕ → List ℕ → List ℕ → List ℕ → Order
 order h k f a b c r = record { head = h; kind = k; fixed = f; first = a; second = b; third = c; run = r }
+
+-- how many octets there are of these, beside the type and the fixed octets
+abbrev pub lengthsOf : Order → Lengths
+lengthsOf o = record {
+  head = length (o .head);
+  first = length (o .first);
+  second = length (o .second);
+  third = length (o .third);
+  run = length (o .run);
+}
 
 -- the contents of the variable parameters that the shape has, in pointer order
 abbrev pub contentsIn : Shape → Order → List (List ℕ)
@@ -61,29 +74,16 @@ abbrev pub gapOf : Bool → List (List ℕ) → ℕ
 gapOf o vs = length vs + bit o
 
 -- the compact form
-unfoldable pub compactOf : Bool → List ℕ → ℕ → List ℕ → List (List ℕ) → List ℕ → List ℕ
-compactOf o head kind fixed vs r =
+unfoldable pub formOf : Bool → List ℕ → ℕ → List ℕ → List (List ℕ) → List ℕ → List ℕ
+formOf o head kind fixed vs r =
     head ++ ((kind ∷ fixed)
     ++ (pointers (gapOf o vs) vs
     ++ (runPointer o (ahead (gapOf o vs) vs) r
     ++ (variables vs ++ closedRun r))))
 
-abbrev pub octetsOf : Shape → Order → List ℕ
-octetsOf s o = compactOf (s .opt) (o .head) (o .kind) (o .fixed) (contentsIn s o) (o .run)
-
--- contents for the k-th variable part of a type that has n
-abbrev pub lacksOf : ℕ → ℕ → List ℕ → Bool
-lacksOf n k c = if ltb k n then false else ltb 0 (length c)
-
--- 10: fixed octets of wrong count, or contents for a part that the type lacks
-unfoldable pub unfitOf : Shape → List ℕ → List ℕ → List ℕ → List ℕ → List ℕ → Bool
-unfitOf s fixed a b c r =
-    if eqb (length fixed) (s .fixed) then
-    (if lacksOf (s .vars) 0 a then true
-    else (if lacksOf (s .vars) 1 b then true
-    else (if lacksOf (s .vars) 2 c then true
-    else (if s .opt then false else ltb 0 (length r)))))
-    else true
+-- the octets of an order: its compact form, of the shape's parts
+abbrev pub orderOctets : Shape → Order → List ℕ
+orderOctets s o = formOf (s .opt) (o .head) (o .kind) (o .fixed) (contentsIn s o) (o .run)
 
 -- the lengths and the pointers that are written
 unfoldable pub marks : Bool → List (List ℕ) → List ℕ → List ℕ
@@ -98,18 +98,19 @@ exceeds (x ∷ xs) = if ltb 255 x then true else exceeds xs
 unfoldable pub writtenOf : Shape → ℕ → Order → Answer (ℕ × List ℕ)
 writtenOf s most o =
     if unfitOf s (o .fixed) (o .first) (o .second) (o .third) (o .run) then refused 10 0
-    else (if isRun (o .run) then
+    else if isRun (o .run) then
     (if exceeds (marks (s .opt) (contentsIn s o) (o .run)) then refused 12 0
-    else (if ltb most (length (octetsOf s o)) then refused 2 0
-    else accepted (length (octetsOf s o), octetsOf s o)))
-    else refused 11 0)
+    else if ltb most (length (orderOctets s o)) then refused 2 0
+    else accepted (length (orderOctets s o), orderOctets s o))
+    else refused 11 0
 
 -- all that writing does: how many octets were written, or the refusal, 13 last; and the buffer afterwards
 unfoldable pub writePartsOf : Shape → ℕ → Order → List ℕ → Done ℕ
 writePartsOf s most o buffer = done buffer (writtenOf s most o then roomFor buffer)
 
--- what fits the shape: the fixed octets have their count, and a part that the type lacks is empty
+-- what fits the shape, which has three variable parts at the most: the fixed octets have their count, and a part that the type lacks is empty
 pub record Fits (s : Shape) (o : Order) : Type 0 where
+  pub few : s .vars ≤ 3
   pub fixed : length (o .fixed) ≡ s .fixed
   pub first : s .vars ≤ 0 → o .first ≡ []
   pub second : s .vars ≤ 1 → o .second ≡ []

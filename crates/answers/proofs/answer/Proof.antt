@@ -1,10 +1,6 @@
-use Rattle.answers.specs.Turns.{Left, ended}
-use Rattle.answers.proofs.Turned.{left-same}
-use Rattle.answers.specs.Turns.{Turn, turnFor, leftBy}
-use Rattle.printing.specs.Sheet.{sheet}
-use native.Mathlib.Omega.{arith}
-use denote.Ref.{now}
-use mathlib.Core.Path.{_≡_, refl, sym, _∙_, ap}
+use mathlib.Core.Path.{refl, _∙_, ap}
+use Rattle.table_lines.proofs.Leaving.{left-same}
+use Rattle.answers.specs.Turns.{withLineEnd}
 use borrow.Author.Needs.{needs}
 use Rattle.answers.proofs.answer.Statement.{statement}
 use Rattle.answers.proofs.answer.Tie as tie
@@ -24,8 +20,11 @@ same-length-2 c = search needs
 same-length-3 : tie.Need-same-length-3
 same-length-3 c = search needs
 
+same-length-4 : tie.Need-same-length-4
+same-length-4 c = search needs
+
 returns : tie.Need-returns
-returns c = left-same refl refl (c .before .before .put-octet .ensures) ∙ ap ended (c .before .before .before .before .before .before .before .before .before .before .answer-line .ensures)
+returns c = left-same refl (c .before .before .put-octet .ensures) ∙ ap withLineEnd (c .before .before .before .before .before .before .before .before .before .before .before .before .answer-line .ensures)
 
 pub answer-spec : {M : Type 1} → statement M
 answer-spec =
@@ -36,4 +35,5 @@ answer-spec =
     same-length
     same-length-2
     same-length-3
+    same-length-4
     returns)

@@ -1,3 +1,4 @@
+use Rattle.hub.specs.Tables.{tables}
 use Rattle.hub.proofs.Given.{allow-foreign, allow-illegal, allow-taken, allow-short, allow-all}
 use Rattle.hub.specs.Rights.{isFound}
 use denote.Ref.{now}
@@ -13,7 +14,7 @@ found-requires : tie.Need-found-requires
 found-requires c κs = search needs
 
 returns : tie.Need-returns
-returns c = let a = c .before .before .before .before .before .before .args in allow-foreign (now (a .states)) (now (a .owners)) (a .sender) (now (a .message)) (a .room) (a .ask) (sym (c .before .found .ensures ∙ ap isFound (c .before .before .first-foreign .ensures)) ∙ c .if1 .taken)
+returns c = let a = c .before .before .before .before .before .before .args in allow-foreign (tables (now (a .states)) (now (a .owners))) (a .sender) (now (a .message)) (a .room) (a .ask) (sym (c .before .found .ensures ∙ ap isFound (c .before .before .first-foreign .ensures)) ∙ c .if1 .taken)
 
 first-illegal-requires : tie.Need-first-illegal-requires
 first-illegal-requires c κs = search needs
@@ -22,22 +23,22 @@ found-requires-2 : tie.Need-found-requires-2
 found-requires-2 c κs = search needs
 
 returns-2 : tie.Need-returns-2
-returns-2 c = let a = c .before .before .before .before .before .before .before .before .before .args in allow-illegal (now (a .states)) (now (a .owners)) (a .sender) (now (a .message)) (a .room) (a .ask) (sym (c .before .before .before .before .found .ensures ∙ ap isFound (c .before .before .before .before .before .first-foreign .ensures)) ∙ c .before .before .before .if1 .left) (sym (c .before .found2 .ensures ∙ ap isFound (c .before .before .first-illegal .ensures)) ∙ c .if2 .taken)
+returns-2 c = let a = c .before .before .before .before .before .before .before .before .before .args in allow-illegal (tables (now (a .states)) (now (a .owners))) (a .sender) (now (a .message)) (a .room) (a .ask) (sym (c .before .before .before .before .found .ensures ∙ ap isFound (c .before .before .before .before .before .first-foreign .ensures)) ∙ c .before .before .before .if1 .left) (sym (c .before .found2 .ensures ∙ ap isFound (c .before .before .first-illegal .ensures)) ∙ c .if2 .taken)
 
 taken-requires : tie.Need-taken-requires
 taken-requires c κs = search needs
 
 returns-3 : tie.Need-returns-3
-returns-3 c = let a = c .before .before .before .before .before .before .before .before .before .before .before .args in allow-taken (now (a .states)) (now (a .owners)) (a .sender) (now (a .message)) (a .room) (a .ask) (sym (c .before .before .before .before .before .before .found .ensures ∙ ap isFound (c .before .before .before .before .before .before .before .first-foreign .ensures)) ∙ c .before .before .before .before .before .if1 .left) (sym (c .before .before .before .found2 .ensures ∙ ap isFound (c .before .before .before .before .first-illegal .ensures)) ∙ c .before .before .if2 .left) (sym (c .before .taken .ensures) ∙ c .if3 .taken)
+returns-3 c = let a = c .before .before .before .before .before .before .before .before .before .before .before .args in allow-taken (tables (now (a .states)) (now (a .owners))) (a .sender) (now (a .message)) (a .room) (a .ask) (sym (c .before .before .before .before .before .before .found .ensures ∙ ap isFound (c .before .before .before .before .before .before .before .first-foreign .ensures)) ∙ c .before .before .before .before .before .if1 .left) (sym (c .before .before .before .found2 .ensures ∙ ap isFound (c .before .before .before .before .first-illegal .ensures)) ∙ c .before .before .if2 .left) (sym (c .before .taken .ensures) ∙ c .if3 .taken)
 
 reply-length-requires : tie.Need-reply-length-requires
 reply-length-requires c κs = search needs
 
 returns-4 : tie.Need-returns-4
-returns-4 c = let a = c .before .before .before .before .before .before .before .before .before .before .before .before .before .args in allow-short (now (a .states)) (now (a .owners)) (a .sender) (now (a .message)) (a .room) (a .ask) (sym (c .before .before .before .before .before .before .before .before .found .ensures ∙ ap isFound (c .before .before .before .before .before .before .before .before .before .first-foreign .ensures)) ∙ c .before .before .before .before .before .before .before .if1 .left) (sym (c .before .before .before .before .before .found2 .ensures ∙ ap isFound (c .before .before .before .before .before .before .first-illegal .ensures)) ∙ c .before .before .before .before .if2 .left) (sym (c .before .before .before .taken .ensures) ∙ c .before .before .if3 .left) _ (c .before .reply-length .ensures) (c .if4 .taken)
+returns-4 c = let a = c .before .before .before .before .before .before .before .before .before .before .before .before .before .args in allow-short (tables (now (a .states)) (now (a .owners))) (a .sender) (now (a .message)) (a .room) (a .ask) (sym (c .before .before .before .before .before .before .before .before .found .ensures ∙ ap isFound (c .before .before .before .before .before .before .before .before .before .first-foreign .ensures)) ∙ c .before .before .before .before .before .before .before .if1 .left) (sym (c .before .before .before .before .before .found2 .ensures ∙ ap isFound (c .before .before .before .before .before .before .first-illegal .ensures)) ∙ c .before .before .before .before .if2 .left) (sym (c .before .before .before .taken .ensures) ∙ c .before .before .if3 .left) _ (c .before .reply-length .ensures) (c .if4 .taken)
 
 returns-5 : tie.Need-returns-5
-returns-5 c = let a = c .before .before .before .before .before .before .before .before .before .before .before .before .before .args in allow-all (now (a .states)) (now (a .owners)) (a .sender) (now (a .message)) (a .room) (a .ask) (sym (c .before .before .before .before .before .before .before .before .found .ensures ∙ ap isFound (c .before .before .before .before .before .before .before .before .before .first-foreign .ensures)) ∙ c .before .before .before .before .before .before .before .if1 .left) (sym (c .before .before .before .before .before .found2 .ensures ∙ ap isFound (c .before .before .before .before .before .before .first-illegal .ensures)) ∙ c .before .before .before .before .if2 .left) (sym (c .before .before .before .taken .ensures) ∙ c .before .before .if3 .left) _ (c .before .reply-length .ensures) (c .if4 .left)
+returns-5 c = let a = c .before .before .before .before .before .before .before .before .before .before .before .before .before .args in allow-all (tables (now (a .states)) (now (a .owners))) (a .sender) (now (a .message)) (a .room) (a .ask) (sym (c .before .before .before .before .before .before .before .before .found .ensures ∙ ap isFound (c .before .before .before .before .before .before .before .before .before .first-foreign .ensures)) ∙ c .before .before .before .before .before .before .before .if1 .left) (sym (c .before .before .before .before .before .found2 .ensures ∙ ap isFound (c .before .before .before .before .before .before .first-illegal .ensures)) ∙ c .before .before .before .before .if2 .left) (sym (c .before .before .before .taken .ensures) ∙ c .before .before .if3 .left) _ (c .before .reply-length .ensures) (c .if4 .left)
 
 pub allow-spec : {M : Type 1} → statement M
 allow-spec =

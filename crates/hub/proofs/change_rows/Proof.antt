@@ -1,8 +1,8 @@
 use borrow.Author.Needs.{needs}
 use Rattle.hub.proofs.Writing.{row-marked, row-unmarked}
-use Rattle.hub.proofs.Spans.{applied-none}
+use Rattle.octets.proofs.Applied.{applied-none}
 use Rattle.hub.specs.Rows.{effect, rowsAfter}
-use Rattle.hub.specs.Applied.{applied}
+use Rattle.octets.specs.Applied.{applied}
 use lib.ListN.{length, length-set}
 use denote.Ref.{now}
 use native.Mathlib.Nat.{add-zero, sub-zero}
@@ -15,11 +15,11 @@ use Rattle.hub.proofs.change_rows.Statement.{statement}
 use Rattle.hub.proofs.change_rows.Tie as tie
 
 abbrev Inv-loop : tie.InvT-loop
-Inv-loop states₀ message ask i₀ states i =
+Inv-loop states₀ message ask act i₀ states i =
     (i ≤ ask .range + 1) × (length states ≡ length states₀) × (applied (effect message ask) (ask .circuit + i) (ask .range + 1 - i) states ≡ rowsAfter message ask states₀)
 
 abbrev μ-loop : tie.MeasureT-loop
-μ-loop states₀ message ask i₀ states i = ask .range + 1 - i
+μ-loop states₀ message ask act i₀ states i = ask .range + 1 - i
 
 loop-holds : tie.Need-loop-holds Inv-loop μ-loop
 loop-holds c = (omega arith, refl, rw (add-zero, sub-zero))

@@ -1,12 +1,12 @@
 use borrow.Author.Needs.{needs}
 use Rattle.hub.proofs.Searches.{search-done, search-ends, search-on}
-use Rattle.hub.specs.Rights.{firstForeign, firstIllegal, isMine, isLegal}
+use Rattle.rows.specs.Rows.{isLegal}
+use Rattle.hub.specs.Rights.{firstIllegal}
 use Rattle.octets.specs.Octet.{octet}
 use borrow.Author.Tests.{not-true, not-false}
-use lib.ListN.{length}
 use denote.Ref.{now}
 use native.Mathlib.Nat.{add-assoc, add-sub-cancel-left}
-use Prim.Native.Nat.{ℕ, _+_, _-_, _≤_, _<_}
+use Prim.Native.Nat.{_+_, _-_, _≤_}
 use mathlib.Core.Path.{_≡_, sym, _∙_}
 use native.Mathlib.Omega.{arith}
 use Rattle.hub.proofs.first_illegal.Statement.{statement}

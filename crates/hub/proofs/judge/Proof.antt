@@ -1,5 +1,7 @@
-use Rattle.hub.proofs.Given.{grant-refused, grant-asked, ask-sound}
-use Rattle.hub.specs.Told.{verdictTold}
+use Rattle.hub.specs.Tables.{tables}
+use Rattle.hub.proofs.Given.{grant-refused, grant-asked}
+use Rattle.asks.proofs.Reading.{ask-sound}
+use Rattle.asks.specs.Told.{verdictTold}
 use Rattle.hub.specs.Acts.{grantOf}
 use denote.Ref.{now}
 use mathlib.Core.Path.{sym, ap, _∙_}
@@ -29,10 +31,10 @@ allow-requires : tie.Need-allow-requires
 allow-requires c κs = let a = c .before .before .before .before .before .before .before .before .before .args in (c .before .before .before .before .before .if1 .left, c .before .before .before .before .if2 .left, ask-sound (now (a .message)) _ (λ i. c .before .before .before .before .before .before .shared-slice-known3 .given i .fits) (sym (c .before .before .before .decode .ensures) ∙ ap verdictTold (c .before .ask .given .1)))
 
 returns-3 : tie.Need-returns-3
-returns-3 c = let a = c .before .before .before .before .before .before .before .before .before .args in grant-refused (now (a .states)) (now (a .owners)) (a .sender) (now (a .message)) (a .room) (c .before .before .before .before .before .if1 .left) (c .before .before .before .before .if2 .left) _ (c .before .before .before .decode .ensures) _ _ (c .before .n .given .1)
+returns-3 c = let a = c .before .before .before .before .before .before .before .before .before .args in grant-refused (tables (now (a .states)) (now (a .owners))) (a .sender) (now (a .message)) (a .room) (c .before .before .before .before .before .if1 .left) (c .before .before .before .before .if2 .left) _ (c .before .before .before .decode .ensures) _ _ (c .before .n .given .1)
 
 returns-4 : tie.Need-returns-4
-returns-4 c = let a = c .before .before .before .before .before .before .before .before .before .before .args in c .allow .ensures ∙ grant-asked (now (a .states)) (now (a .owners)) (a .sender) (now (a .message)) (a .room) (c .before .before .before .before .before .before .if1 .left) (c .before .before .before .before .before .if2 .left) _ (c .before .before .before .before .decode .ensures) _ (c .before .before .ask .given .1)
+returns-4 c = let a = c .before .before .before .before .before .before .before .before .before .before .args in c .allow .ensures ∙ grant-asked (tables (now (a .states)) (now (a .owners))) (a .sender) (now (a .message)) (a .room) (c .before .before .before .before .before .before .if1 .left) (c .before .before .before .before .before .if2 .left) _ (c .before .before .before .before .decode .ensures) _ (c .before .before .ask .given .1)
 
 pub judge-spec : {M : Type 1} → statement M
 judge-spec =

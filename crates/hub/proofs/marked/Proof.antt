@@ -1,8 +1,6 @@
-use Rattle.hub.specs.Asks.{markOf, bitAt}
+use Rattle.asks.specs.Asks.{markOf, bitAt}
 use mathlib.Core.Logic.{⊎-elim}
-use mathlib.Core.Path.{refl}
 use native.Mathlib.Omega.{arith}
-use mathlib.Core.Path.{_≡_, sym, ap, _∙_}
 use borrow.Author.Tests.{ne-eqb, eq-eqb}
 use borrow.Author.Needs.{needs}
 use Rattle.hub.proofs.marked.Statement.{statement}

@@ -1,4 +1,4 @@
-use mathlib.Core.Path.{_≡_, refl, sym, _∙_, ap}
+use mathlib.Core.Path.{_∙_}
 use denote.Ref.{now}
 use Rattle.isup.proofs.Rewritten.{read-inside, again-compact}
 use borrow.Author.Needs.{needs}

@@ -1,4 +1,4 @@
-use mathlib.Core.Path.{_≡_, refl, sym, _∙_, ap}
+use mathlib.Core.Path.{refl, sym, _∙_}
 use denote.Ref.{now}
 use native.Mathlib.Omega.{arith}
 use borrow.Author.Tests.{lt-ltb, le-ltb}
@@ -33,6 +33,9 @@ cast-t15 c = search needs
 
 cast-t17 : tie.Need-cast-t17
 cast-t17 c = search needs
+
+cast-write-parts : tie.Need-cast-write-parts
+cast-write-parts c = search needs
 
 slice-aggregate-write-parts : tie.Need-slice-aggregate-write-parts
 slice-aggregate-write-parts c = search needs
@@ -70,6 +73,7 @@ write-spec =
     enum-known-shape
     cast-t15
     cast-t17
+    cast-write-parts
     slice-aggregate-write-parts
     sub-write-parts
     part-write-parts-start

@@ -1,4 +1,4 @@
-use Rattle.layout.proofs.Steps.{no-share}
+use Rattle.layout.proofs.Whole.{no-share}
 use Rattle.layout.specs.Container.{judged, held}
 use borrow.Author.Needs.{needs}
 use Rattle.layout.proofs.judge.Statement.{statement}

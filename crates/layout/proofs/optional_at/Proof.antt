@@ -1,8 +1,7 @@
 use mathlib.Core.Path.{_∙_}
 use denote.Ref.{now}
 use borrow.Author.Tests.{eq-eqb, ne-eqb}
-use Rattle.layout.specs.Run.{runFrom}
-use Rattle.layout.specs.Container.{optionalAt}
+use Rattle.layout.specs.Container.{runFrom, optionalAt}
 use Rattle.layout.proofs.Pointed.{off-then, at-then}
 use borrow.Author.Needs.{needs}
 use Rattle.layout.proofs.optional_at.Statement.{statement}

@@ -22,18 +22,22 @@ enum-told c = search needs
 enum-known-row : tie.Need-enum-known-row
 enum-known-row c = search needs
 
+returns-3 : tie.Need-returns-3
+unfolding partsOf
+returns-3 c = simp (lt-leb _ _ (c .before .before .before .before .before .before .if1 .left), le-ltb _ _ (c .before .before .before .before .before .if2 .left), c .before .before .before .row .given .1, lt-ltb _ _ (c .if3 .taken))
+
 container-requires : tie.Need-container-requires
 container-requires c κs = search needs
 
-returns-3 : tie.Need-returns-3
-unfolding partsOf
-returns-3 c = simp (lt-leb _ _ (c .before .before .before .if1 .left), le-ltb _ _ (c .before .before .if2 .left), c .enum-told .given .1)
-
 returns-4 : tie.Need-returns-4
 unfolding partsOf
-returns-4 c = c .container .ensures ∙ simp (lt-leb _ _ (c .before .before .before .before .before .if1 .left), le-ltb _ _ (c .before .before .before .before .if2 .left), c .before .before .row .given .1)
+returns-4 c = simp (lt-leb _ _ (c .before .before .before .if1 .left), le-ltb _ _ (c .before .before .if2 .left), c .enum-told .given .1)
+
+returns-5 : tie.Need-returns-5
+unfolding partsOf
+returns-5 c = c .container .ensures ∙ simp (lt-leb _ _ (c .before .before .before .before .before .before .before .if1 .left), le-ltb _ _ (c .before .before .before .before .before .before .if2 .left), c .before .before .before .before .row .given .1, le-ltb _ _ (c .before .if3 .left))
 
 pub read-parts-spec : {M : Type 1} → statement M
 read-parts-spec =
     tie.close
-    (tie.spec returns returns-2 enum-told enum-known-row container-requires returns-3 returns-4)
+    (tie.spec returns returns-2 enum-told enum-known-row returns-3 container-requires returns-4 returns-5)

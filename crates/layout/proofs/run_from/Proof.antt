@@ -1,7 +1,7 @@
-use mathlib.Core.Path.{_≡_, refl, sym, _∙_, ap}
+use mathlib.Core.Path.{sym, _∙_, ap}
 use native.Mathlib.Omega.{arith}
-use Rattle.layout.specs.Run.{closed, runFrom}
-use Rattle.layout.proofs.Runs.{from-stop}
+use Rattle.layout.specs.Container.{closed, runFrom}
+use Rattle.runs.proofs.Runs.{from-stop}
 use borrow.Author.Needs.{needs}
 use Rattle.layout.proofs.run_from.Statement.{statement}
 use Rattle.layout.proofs.run_from.Tie as tie

@@ -1,8 +1,4 @@
-use borrow.Author.Tests.{lt-ltb, le-ltb, eq-eqb, ne-eqb}
-use native.Mathlib.Omega.{arith}
-use denote.Ref.{now}
-use mathlib.Core.Path.{_≡_, refl, sym, _∙_, ap}
-use Prim.Native.Nat.{ℕ}
+use borrow.Author.Tests.{eq-eqb, ne-eqb}
 use borrow.Author.Needs.{needs}
 use Rattle.llachurep.proofs.fixed_start.Statement.{statement}
 use Rattle.llachurep.proofs.fixed_start.Tie as tie

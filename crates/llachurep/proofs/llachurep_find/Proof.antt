@@ -1,11 +1,8 @@
 use Rattle.llachurep.proofs.Gives.{valued, find-refused, find-given}
-use Rattle.isup.specs.Told.{locatedTold}
+use Rattle.finding.specs.Told.{locatedTold}
 use Rattle.llachurep.specs.Boundary.{given}
-use borrow.Author.Tests.{lt-ltb, le-ltb, eq-eqb, ne-eqb}
-use native.Mathlib.Omega.{arith}
 use denote.Ref.{now}
-use mathlib.Core.Path.{_≡_, refl, sym, _∙_, ap}
-use Prim.Native.Nat.{ℕ}
+use mathlib.Core.Path.{sym, _∙_, ap}
 use borrow.Author.Needs.{needs}
 use Rattle.llachurep.proofs.llachurep_find.Statement.{statement}
 use Rattle.llachurep.proofs.llachurep_find.Tie as tie

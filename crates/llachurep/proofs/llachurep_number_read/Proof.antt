@@ -3,11 +3,9 @@ use Rattle.number.specs.declared.Number.{Number}
 use Rattle.octets.specs.Filled.{Done}
 use Rattle.llachurep.proofs.Small.{count-small}
 use Rattle.llachurep.specs.Boundary.{numberGiven}
-use borrow.Author.Tests.{lt-ltb, le-ltb, eq-eqb, ne-eqb}
 use native.Mathlib.Omega.{arith}
 use denote.Ref.{now}
-use mathlib.Core.Path.{_≡_, refl, sym, _∙_, ap}
-use Prim.Native.Nat.{ℕ}
+use mathlib.Core.Path.{sym, _∙_, ap}
 use borrow.Author.Needs.{needs}
 use Rattle.llachurep.proofs.llachurep_number_read.Statement.{statement}
 use Rattle.llachurep.proofs.llachurep_number_read.Tie as tie

@@ -4,10 +4,8 @@ use Rattle.isup.specs.Read.{readOf}
 use mathlib.Core.List.{List}
 use Rattle.llachurep.proofs.Small.{read-small}
 use Rattle.llachurep.specs.Boundary.{given}
-use borrow.Author.Tests.{lt-ltb, le-ltb, eq-eqb, ne-eqb}
-use native.Mathlib.Omega.{arith}
 use denote.Ref.{now}
-use mathlib.Core.Path.{_≡_, refl, sym, _∙_, ap}
+use mathlib.Core.Path.{sym, _∙_, ap}
 use Prim.Native.Nat.{ℕ}
 use borrow.Author.Needs.{needs}
 use Rattle.llachurep.proofs.llachurep_read.Statement.{statement}

@@ -1,11 +1,10 @@
 use Rattle.llachurep.proofs.Gives.{valued}
 use Rattle.octets.specs.Filled.{Done}
 use Rattle.llachurep.proofs.Small.{write-small}
-use Rattle.llachurep.specs.Boundary.{given, givenBy}
-use borrow.Author.Tests.{lt-ltb, le-ltb, eq-eqb, ne-eqb}
+use Rattle.llachurep.specs.Boundary.{givenBy}
 use native.Mathlib.Omega.{arith}
 use denote.Ref.{now}
-use mathlib.Core.Path.{_≡_, refl, sym, _∙_, ap}
+use mathlib.Core.Path.{sym, _∙_, ap}
 use Prim.Native.Nat.{ℕ}
 use borrow.Author.Needs.{needs}
 use Rattle.llachurep.proofs.llachurep_write.Statement.{statement}

@@ -1,11 +1,8 @@
 use Rattle.octets.proofs.Filled.{sets-filled}
 use lib.ListN.{length-set}
 use Rattle.llachurep.specs.Boundary.{valuesOf}
-use borrow.Author.Tests.{lt-ltb, le-ltb, eq-eqb, ne-eqb}
 use native.Mathlib.Omega.{arith}
 use denote.Ref.{now}
-use mathlib.Core.Path.{_≡_, refl, sym, _∙_, ap}
-use Prim.Native.Nat.{ℕ}
 use borrow.Author.Needs.{needs}
 use Rattle.llachurep.proofs.put_values.Statement.{statement}
 use Rattle.llachurep.proofs.put_values.Tie as tie

@@ -1,11 +1,8 @@
-use Rattle.writing.specs.Told.{writtenTold}
-use Rattle.writing.specs.declared.Written.{Written}
+use Rattle.octets.specs.Told.{writtenTold}
+use Rattle.octets.specs.declared.Written.{Written}
 use Rattle.llachurep.specs.Boundary.{packed}
-use borrow.Author.Tests.{lt-ltb, le-ltb, eq-eqb, ne-eqb}
 use native.Mathlib.Omega.{arith}
-use denote.Ref.{now}
-use mathlib.Core.Path.{_≡_, refl, sym, _∙_, ap}
-use Prim.Native.Nat.{ℕ}
+use mathlib.Core.Path.{sym, _∙_, ap}
 use borrow.Author.Needs.{needs}
 use Rattle.llachurep.proofs.written.Statement.{statement}
 use Rattle.llachurep.proofs.written.Tie as tie

@@ -3,7 +3,7 @@ use Prim.Native.Nat.{ℕ, _+_, _*_, _<_}
 use native.Mathlib.Omega.{arith}
 use lib.ListN.{length-set}
 use denote.Ref.{now}
-use Rattle.number.specs.Laws.{none-above}
+use Rattle.number.proofs.Laws.{none-above}
 use Rattle.number.proofs.Steps.{write-taken, write-none, write-last, write-both}
 use borrow.Fn.Kinds.{In}
 use borrow.Fn.PlainCycle.{Measures, is, falls, and}

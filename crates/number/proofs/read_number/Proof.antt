@@ -2,16 +2,11 @@ use native.Mathlib.Omega.{arith}
 use denote.Ref.{now}
 use Rattle.number.specs.Read.{valuesIn}
 use Rattle.number.specs.Contents.{signalsIn}
-use Rattle.number.specs.Laws.{length-signals}
-use Rattle.number.specs.Reading.{read-short, read-empty, read-filler, read-long, number-there, values-same, read-no-room, read-done}
+use Rattle.number.proofs.Laws.{length-signals}
+use Rattle.number.proofs.Reading.{read-short, read-empty, read-filler, read-long, number-there, values-same, read-no-room, read-done}
 use borrow.Author.Needs.{needs}
 use Rattle.number.proofs.read_number.Statement.{statement}
 use Rattle.number.proofs.read_number.Tie as tie
-use Rattle.number.proofs.read_number.Reads as reads
-use Rattle.number.proofs.read_number.Lts as lts
-use Rattle.number.proofs.bit_8.Reads as bit-8-reads
-use Rattle.number.proofs.filler.Reads as filler-reads
-use Rattle.number.proofs.read_signals.Reads as read-signals-reads
 
 -- src/lib.rt:92:9
 returns : tie.Need-returns
@@ -66,12 +61,12 @@ read-signals-requires : tie.Need-read-signals-requires
 read-signals-requires c κs = omega arith
 
 -- src/lib.rt:111:17
-shared-slice-read-t9 : tie.Need-shared-slice-read-t9
-shared-slice-read-t9 c = search needs
+shared-slice-read-t11 : tie.Need-shared-slice-read-t11
+shared-slice-read-t11 c = search needs
 
 -- src/lib.rt:112:15
-shared-slice-read-t20 : tie.Need-shared-slice-read-t20
-shared-slice-read-t20 c = search needs
+shared-slice-read-t24 : tie.Need-shared-slice-read-t24
+shared-slice-read-t24 c = search needs
 
 -- src/lib.rt:113:25
 shared-slice-read-bit-8-2 : tie.Need-shared-slice-read-bit-8-2
@@ -113,8 +108,8 @@ read-number-spec =
     returns-4
     returns-5
     read-signals-requires
-    shared-slice-read-t9
-    shared-slice-read-t20
+    shared-slice-read-t11
+    shared-slice-read-t24
     shared-slice-read-bit-8-2
     bit-8-requires-2
     same-length

@@ -1,6 +1,6 @@
 -- `number::read_signals` meets its contract: it lends its buffer to `read_low` (`Lending.antt`). Assumes nothing.
 use mathlib.Core.Path.{_≡_, refl}
-use Prim.Native.Nat.{ℕ, _≤_, _*_, _+_}
+use Prim.Native.Nat.{_≤_, _*_, _+_}
 use native.Mathlib.Omega.{arith}
 use lib.ListN.{length, drop}
 use lib.Seq.{sets, length-sets}

@@ -2,9 +2,9 @@ use mathlib.Core.Path.{sym, _∙_}
 use native.Mathlib.Omega.{arith}
 use denote.Ref.{now}
 use lib.ListN.{length, length-set}
-use Rattle.number.specs.Contents.{contentsOf}
-use Rattle.number.specs.Laws.{length-packed}
-use Rattle.number.specs.Writing.{write-nature, write-plan, write-internal, write-long, write-above, octets-there, write-no-room, write-done}
+use Rattle.number.specs.Contents.{codedAs}
+use Rattle.number.proofs.Laws.{length-packed}
+use Rattle.number.proofs.Writing.{write-nature, write-plan, write-internal, write-long, write-above, octets-there, write-no-room, write-done}
 use borrow.Author.Needs.{needs}
 use Rattle.number.proofs.write_number.Statement.{statement}
 use Rattle.number.proofs.write_number.Tie as tie
@@ -39,7 +39,7 @@ add-length-2 c = search needs
 returns-6 : tie.Need-returns-6
 returns-6 c =
     let a = c .before .before .before .before .before .before .before .before .before .args in
-    let x = contentsOf (a .nature) (a .plan) (a .internal) (now (a .t4)) in
+    let x = codedAs (a .nature) (a .plan) (a .internal) (now (a .t4)) in
     write-no-room (a .nature) (a .plan) (a .internal) (now (a .t4)) (now (a .out)) (length x) x
     (octets-there (a .nature) (a .plan) (a .internal) (now (a .t4)) (omega arith) (omega arith) (omega arith) (omega arith) (sym (c .before .before .any-above-15 .ensures) ∙ c .before .if5 .left))
     (omega (arith, length-packed (now (a .t4))))
@@ -87,7 +87,7 @@ same-length c = c .before .before .write-signals .kept .1 .0 ∙ simp length-set
 returns-7 : tie.Need-returns-7
 returns-7 c =
     let a = c .before .before .before .before .before .before .before .before .before .before .before .before .before .before .args in
-    let x = contentsOf (a .nature) (a .plan) (a .internal) (now (a .t4)) in
+    let x = codedAs (a .nature) (a .plan) (a .internal) (now (a .t4)) in
     write-done (a .nature) (a .plan) (a .internal) (now (a .t4)) (now (a .out)) (length x) x
     (octets-there (a .nature) (a .plan) (a .internal) (now (a .t4)) (omega arith) (omega arith) (omega arith) (omega arith) (sym (c .before .before .before .before .before .before .before .any-above-15 .ensures) ∙ c .before .before .before .before .before .before .if5 .left))
     _

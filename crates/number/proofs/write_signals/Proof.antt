@@ -8,7 +8,7 @@ use lib.Seq.{sets, length-sets}
 use contract.Running.{givenOf, tables, tablesOf}
 use denote.Triple.Spec.{tripleOf}
 use denote.Triple.Table.{entered, cited}
-use Rattle.number.specs.Halves.{packed}
+use Rattle.number.specs.Halves.{twoToAnOctet}
 use Rattle.number.specs.Write.{anyAbove15}
 use Rattle.number.proofs.Lending.{Lends, Taker, lender-meets}
 use Rattle.number.proofs.write_low.Symbol as write-low-def
@@ -23,12 +23,12 @@ use Rattle.number.proofs.write_signals.Code as code
 abbrev writing : Lends
 writing = record {
   asks = λ xs ys n. (n ≡ length xs) × (length xs ≤ 30) × (anyAbove15 xs ≡ false) × (2 + (length xs + 1) / 2 ≤ length ys);
-  leaves = λ xs ys n. sets ys 2 (packed xs);
+  leaves = λ xs ys n. sets ys 2 (twoToAnOctet xs);
   takes = λ xs ys at left. (2 * at + left ≡ length xs) × (length xs ≤ 30) × (anyAbove15 xs ≡ false) × (2 + (length xs + 1) / 2 ≤ length ys);
-  fills = λ xs ys at left. sets ys (at + 2) (packed (drop (2 * at) xs));
+  fills = λ xs ys at left. sets ys (at + 2) (twoToAnOctet (drop (2 * at) xs));
   goes = λ xs ys n ok. (omega (arith, ok .0), ok .1, ok .2, ok .3);
   same = λ xs ys n. refl;
-  long = λ xs ys n. length-sets ys 2 (packed xs);
+  long = λ xs ys n. length-sets ys 2 (twoToAnOctet xs);
 }
 
 pub write-signals-spec : {M : Type 1} → stated.statement M

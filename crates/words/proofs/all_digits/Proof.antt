@@ -1,11 +1,11 @@
 use borrow.Author.Needs.{needs}
 use Rattle.words.specs.Words.{allDigits}
 use Rattle.words.proofs.Steps.{all-broken, all-more, all-ended}
-use lib.ListN.{length, getD, drop}
+use lib.ListN.{length, drop}
 use native.Mathlib.Omega.{arith}
 use denote.Ref.{now}
-use mathlib.Core.Path.{_≡_, refl, sym, _∙_, ap}
-use Prim.Native.Nat.{ℕ, _+_, _*_, _-_, _≤_, _<_}
+use mathlib.Core.Path.{_≡_, refl, sym, _∙_}
+use Prim.Native.Nat.{_-_, _≤_}
 use Rattle.words.proofs.all_digits.Statement.{statement}
 use Rattle.words.proofs.all_digits.Tie as tie
 

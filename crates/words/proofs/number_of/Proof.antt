@@ -1,12 +1,12 @@
 use borrow.Author.Needs.{needs}
 use Rattle.words.specs.Words.{digitsFrom, numberOf}
 use Rattle.words.proofs.Steps.{digit-none, digit-past, digit-more, digits-ended, number-digits}
-use borrow.Author.Tests.{lt-ltb, le-ltb, eq-eqb, ne-eqb}
-use lib.ListN.{length, getD, drop}
+use borrow.Author.Tests.{lt-ltb, eq-eqb, ne-eqb}
+use lib.ListN.{length, drop}
 use native.Mathlib.Omega.{arith}
 use denote.Ref.{now}
-use mathlib.Core.Path.{_≡_, refl, sym, _∙_, ap}
-use Prim.Native.Nat.{ℕ, _+_, _*_, _-_, _≤_, _<_}
+use mathlib.Core.Path.{_≡_, refl, sym, _∙_}
+use Prim.Native.Nat.{_-_, _≤_}
 use Rattle.words.proofs.number_of.Statement.{statement}
 use Rattle.words.proofs.number_of.Tie as tie
 

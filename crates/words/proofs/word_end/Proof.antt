@@ -1,11 +1,11 @@
 use borrow.Author.Needs.{needs}
 use Rattle.words.specs.Words.{wordLength}
 use Rattle.words.proofs.Steps.{word-space, word-more, word-ended}
-use lib.ListN.{length, getD, drop}
+use lib.ListN.{length, drop}
 use native.Mathlib.Omega.{arith}
 use denote.Ref.{now}
-use mathlib.Core.Path.{_≡_, refl, sym, _∙_, ap}
-use Prim.Native.Nat.{ℕ, _+_, _*_, _-_, _≤_, _<_}
+use mathlib.Core.Path.{_≡_, refl}
+use Prim.Native.Nat.{_+_, _-_, _≤_}
 use Rattle.words.proofs.word_end.Statement.{statement}
 use Rattle.words.proofs.word_end.Tie as tie
 

@@ -1,10 +1,10 @@
-use Prim.Native.Nat.{ℕ, _+_, _-_, _≤_}
-use mathlib.Core.Path.{_≡_, refl, sym, _∙_, ap}
+use Prim.Native.Nat.{_+_, _-_, _≤_}
+use mathlib.Core.Path.{_≡_, refl}
 use native.Mathlib.Omega.{arith}
 use denote.Ref.{now}
 use borrow.Author.Needs.{needs}
 use lib.ListN.{length, take, length-set}
-use Rattle.writing.specs.Plain.{Stored}
+use Rattle.writing.specs.Inside.{Stored}
 use Rattle.writing.proofs.Storing.{stored-turn, stored-all}
 use Rattle.writing.proofs.put_all.Statement.{statement}
 use Rattle.writing.proofs.put_all.Tie as tie

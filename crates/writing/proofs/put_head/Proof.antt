@@ -1,11 +1,10 @@
-use Prim.Native.Nat.{_+_, _≤_, _<_}
-use mathlib.Core.Path.{_≡_, refl, sym, _∙_, ap}
-use mathlib.Core.List.{_∷_, [], _++_}
+use Prim.Native.Nat.{_+_, _≤_}
+use mathlib.Core.List.{[], _∷_, _++_}
 use native.Mathlib.Omega.{arith}
 use denote.Ref.{now}
 use lib.ListN.{length}
-use Rattle.writing.specs.Plain.{headPieces}
-use Rattle.writing.proofs.Storing.{stored-join, room-after, room-first, stored-part, stored-no-part, stored-no-run, closed-run}
+use Rattle.writing.specs.Inside.{headPieces}
+use Rattle.writing.proofs.Storing.{stored-join, room-after, room-first}
 use borrow.Author.Needs.{needs}
 use Rattle.writing.proofs.put_head.Statement.{statement}
 use Rattle.writing.proofs.put_head.Tie as tie

@@ -1,11 +1,11 @@
-use Prim.Native.Nat.{_+_, _≤_, _<_}
-use mathlib.Core.Path.{_≡_, refl, sym, _∙_, ap}
-use mathlib.Core.List.{_∷_, [], _++_}
+use Prim.Native.Nat.{_+_, _≤_}
+use mathlib.Core.Path.{ap}
+use mathlib.Core.List.{_∷_}
 use native.Mathlib.Omega.{arith}
 use denote.Ref.{now}
 use lib.ListN.{length}
-use Rattle.writing.specs.Plain.{partIf}
-use Rattle.writing.proofs.Storing.{stored-join, room-after, room-first, stored-part, stored-no-part, stored-no-run, closed-run}
+use Rattle.writing.specs.Inside.{partIf}
+use Rattle.writing.proofs.Storing.{stored-join, room-after, stored-part, stored-no-part}
 use borrow.Author.Needs.{needs}
 use Rattle.writing.proofs.put_part.Statement.{statement}
 use Rattle.writing.proofs.put_part.Tie as tie

@@ -2,7 +2,7 @@ use denote.Ref.{now}
 use mathlib.Core.List.{_++_}
 use lib.Dec.{ltb}
 use Rattle.writing.specs.Write.{closedRun}
-use Rattle.writing.specs.Plain.{partIf}
+use Rattle.writing.specs.Inside.{partIf}
 use Rattle.writing.proofs.Storing.{stored-join, room-after, room-first}
 use borrow.Author.Needs.{needs}
 use Rattle.writing.proofs.put_parts.Statement.{statement}

@@ -1,10 +1,10 @@
-use mathlib.Core.Path.{_≡_, refl, sym, _∙_, ap}
+use mathlib.Core.Path.{ap}
 use native.Mathlib.Omega.{arith}
 use denote.Ref.{now}
 use lib.ListN.{length}
-use Rattle.writing.specs.Plain.{pointerIf}
+use Rattle.writing.specs.Inside.{pointerIf}
 use Rattle.writing.proofs.Storing.{stored-pointer, stored-no-pointer}
-use Rattle.writing.proofs.Pointers.{not-beyond}
+use Rattle.measuring.proofs.Near.{not-beyond}
 use borrow.Author.Needs.{needs}
 use Rattle.writing.proofs.put_pointer.Statement.{statement}
 use Rattle.writing.proofs.put_pointer.Tie as tie

@@ -1,9 +1,7 @@
-use Prim.Native.Nat.{_+_, _≤_, _<_}
-use mathlib.Core.Path.{_≡_, refl, sym, _∙_, ap}
-use mathlib.Core.List.{_∷_, [], _++_}
+use mathlib.Core.List.{[], _∷_}
 use native.Mathlib.Omega.{arith}
 use denote.Ref.{now}
-use Rattle.writing.proofs.Storing.{stored-join, room-after, room-first, stored-part, stored-no-part, stored-no-run, closed-run}
+use Rattle.writing.proofs.Storing.{stored-join, room-after, room-first, stored-no-run, closed-run}
 use borrow.Author.Needs.{needs}
 use Rattle.writing.proofs.put_run.Statement.{statement}
 use Rattle.writing.proofs.put_run.Tie as tie

@@ -1,0 +1,6 @@
+pub mod Types
+pub mod Reading
+pub mod Given
+pub mod Judged
+pub mod Determined
+pub mod Refutations

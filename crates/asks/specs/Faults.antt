@@ -1,0 +1,58 @@
+-- What a message may be refused for by itself, each in the paper's words, in the paper's order: the reader's, 17, 14, 18.
+use Prim.Native.Nat.{ℕ, _+_, _≤_, _<_}
+use mathlib.Core.Path.{_≡_}
+use mathlib.Core.List.{List, [], _∷_, _++_}
+use mathlib.Core.Logic.{_⊎_}
+use Rattle.octets.specs.Faults.{Fault, fault}
+use Rattle.octets.specs.Choice.{if_then_else_}
+use Rattle.octets.specs.Among.{among, OneOf}
+use Rattle.isup.specs.declared.Message.{Message}
+use Rattle.isup.specs.Limits.{lastCircuit}
+use Rattle.isup.specs.WellFormed.{WellFormed}
+use Rattle.isup.specs.Faults.{readerFaults}
+use Rattle.isup.specs.Types.{GRS, CGB, CGU}
+use Rattle.asks.specs.Types.{acting}
+use Rattle.layout.specs.Spans.{spanSize}
+use Rattle.asks.specs.Asks.{rangeIn, blockKind, width, indicatorIn}
+
+-- the message reads, and what it reads as is such
+abbrev pub Reads : List ℕ → (Message → Type 0) → Type 0
+Reads m P = (x : Message) × WellFormed m x × P x
+
+-- 17: a type the hub does not act on
+abbrev pub NotActedOn : Message → Type 0
+NotActedOn x = OneOf (x .kind) acting → ⊥
+
+-- GRS: contents exactly r's octet, range r from 1 to 31
+pub record KeepsReset (m : List ℕ) (x : Message) : Type 0 where
+  pub exact : spanSize (x .parts .first) ≡ 1
+  pub least : 1 ≤ rangeIn m (x .parts .first)
+  pub most : rangeIn m (x .parts .first) ≤ 31
+
+-- CGB, CGU: low two bits of the indicator 0 or 1; range from 1 on (an octet, so to 255), then exactly r/8+1 status octets
+pub record KeepsGroup (m : List ℕ) (x : Message) : Type 0 where
+  pub kinds : blockKind (indicatorIn m x) ≤ 1
+  pub least : 1 ≤ rangeIn m (x .parts .first)
+  pub exact : spanSize (x .parts .first) ≡ 1 + width (rangeIn m (x .parts .first))
+
+-- 14: typed contents break their rule
+abbrev pub BreaksRule : List ℕ → Message → Type 0
+BreaksRule m x =
+    ((x .kind ≡ GRS) × (KeepsReset m x → ⊥)) ⊎ (OneOf (x .kind) (CGB ∷ CGU ∷ []) × (KeepsGroup m x → ⊥))
+
+-- the range that a message gives: the range octet of GRS, CGB and CGU, else 0
+abbrev pub rangeGiven : List ℕ → Message → ℕ
+rangeGiven m x = if among (x .kind) (GRS ∷ CGB ∷ CGU ∷ []) then rangeIn m (x .parts .first) else 0
+
+-- 18: group passes circuit 4095
+abbrev pub GroupPasses : List ℕ → Message → Type 0
+GroupPasses m x = lastCircuit < x .circuit + rangeGiven m x
+
+-- what a message may be refused for by itself
+abbrev pub askFaults : List ℕ → List Fault
+askFaults m =
+    readerFaults m
+    ++ (fault 17 0 (Reads m NotActedOn)
+    ∷ fault 14 0 (Reads m (BreaksRule m))
+    ∷ fault 18 0 (Reads m (GroupPasses m))
+    ∷ [])

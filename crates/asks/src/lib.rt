@@ -1,0 +1,146 @@
+// What a message asks, from the message alone: which act, on which circuits, for which kind of block, and where the status stands.
+ghost use mathlib.Core.Path.{_≡_};
+ghost use Prim.Native.Nat.{_+_, _≤_};
+ghost use lib.ListN.{length};
+ghost use Rattle.octets.specs.Answer.{accepted};
+ghost use Rattle.isup.specs.Limits.{lastCircuit};
+ghost use Rattle.asks.specs.Asks.{brokenReset, brokenGroup, oneAsk, resetAsk, groupAsk, unbroken, askedIn, askOf};
+ghost use Rattle.asks.specs.Inside.{Placed, looked};
+ghost use Rattle.asks.specs.Told.{verdictTold};
+use isup::BLO;
+use isup::CGB;
+use isup::CGU;
+use isup::GRS;
+use isup::IAM;
+use isup::LAST_CIRCUIT;
+use isup::REL;
+use isup::RSC;
+use isup::Scanned;
+use isup::UBL;
+use layout::Span;
+use rows::Act;
+
+// GRS has a range of 1 to this.
+const MOST_RESET: usize = 31;
+
+// What a message asks: the act; the circuits, `circuit` and the `range` after it; the kind of block, 0 for maintenance and 1 for hardware; and the octet at which the status stands, 0 where each named circuit is marked.
+pub struct Ask {
+    pub act: Act,
+    pub circuit: usize,
+    pub range: usize,
+    pub block: u8,
+    pub status: usize,
+}
+
+// What a message asks, or the refusal's number with the octet that it is about.
+pub enum Verdict {
+    Granted(Ask),
+    Refused(u8, usize),
+}
+
+// What GRS asks: 14 unless its contents are exactly the range's octet and the range is 1 to 31, then 18.
+fn ask_reset(message: &[u8], circuit: usize, contents: Span) -> Verdict
+    requires { ⌜ (contents .from ≤ contents .to) × (contents .to ≤ length (now message)) × (circuit ≤ lastCircuit) ⌝ }
+    ensures { λ r. ⌜ verdictTold r ≡ unbroken (brokenReset (now (message .entry)) contents) (resetAsk (now (message .entry)) circuit contents) ⌝ }
+{
+    let from = contents.from;
+    if contents.to - from != 1 {
+        return Verdict::Refused(14, 0);
+    }
+    let range = message[from] as usize;
+    if range == 0 {
+        return Verdict::Refused(14, 0);
+    }
+    if range > MOST_RESET {
+        return Verdict::Refused(14, 0);
+    }
+    if circuit + range > LAST_CIRCUIT as usize {
+        return Verdict::Refused(18, 0);
+    }
+    Verdict::Granted(Ask {
+        act: Act::ResetGroup,
+        circuit,
+        range,
+        block: 0,
+        status: 0,
+    })
+}
+
+// What CGB or CGU asks: 14 unless the kind is 0 or 1, the range 1 to 255 and the status as wide as it says, then 18.
+fn ask_group(message: &[u8], act: Act, circuit: usize, indicator: u8, contents: Span) -> Verdict
+    requires { ⌜ (contents .from ≤ contents .to) × (contents .to ≤ length (now message)) × (circuit ≤ lastCircuit) ⌝ }
+    ensures { λ r. ⌜ verdictTold r ≡ unbroken (brokenGroup (now (message .entry)) indicator contents) (groupAsk (now (message .entry)) act circuit indicator contents) ⌝ }
+{
+    let block = indicator % 4;
+    if block > 1 {
+        return Verdict::Refused(14, 0);
+    }
+    let from = contents.from;
+    let size = contents.to - from;
+    if size == 0 {
+        return Verdict::Refused(14, 0);
+    }
+    let range = message[from] as usize;
+    if range == 0 {
+        return Verdict::Refused(14, 0);
+    }
+    if size != 1 + (range / 8 + 1) {
+        return Verdict::Refused(14, 0);
+    }
+    if circuit + range > LAST_CIRCUIT as usize {
+        return Verdict::Refused(18, 0);
+    }
+    Verdict::Granted(Ask {
+        act,
+        circuit,
+        range,
+        block,
+        status: from + 1,
+    })
+}
+
+// What a message that names one circuit asks.
+fn ask_one(act: Act, circuit: usize) -> Verdict
+    ensures { λ r. ⌜ verdictTold r ≡ accepted (oneAsk act circuit) ⌝ }
+{
+    Verdict::Granted(Ask {
+        act,
+        circuit,
+        range: 0,
+        block: 0,
+        status: 0,
+    })
+}
+
+// What a message that reads asks, by its type, circuit, where its fixed part starts and its first contents: 17 for a type that the hub does not act on, then 14, then 18.
+// The type octet is looked at here and nowhere else.
+fn ask_in(message: &[u8], kind: u8, circuit: usize, at: usize, contents: Span) -> Verdict
+    requires { ⌜ Placed (now message) kind circuit at contents ⌝ }
+    ensures { λ r. ⌜ verdictTold r ≡ askedIn (now (message .entry)) (looked kind circuit at contents) ⌝ }
+{
+    match kind {
+        IAM => ask_one(Act::Seize, circuit),
+        REL => ask_one(Act::Release, circuit),
+        RSC => ask_one(Act::Reset, circuit),
+        BLO => ask_one(Act::Block, circuit),
+        UBL => ask_one(Act::Unblock, circuit),
+        GRS => ask_reset(message, circuit, contents),
+        CGB => ask_group(message, Act::BlockGroup, circuit, message[at], contents),
+        CGU => ask_group(message, Act::UnblockGroup, circuit, message[at], contents),
+        _ => Verdict::Refused(17, 0),
+    }
+}
+
+// What a message asks, from the message alone: the reader's numbers, 17, 14, 18.
+pub fn decode(message: &[u8]) -> Verdict
+    ensures { λ r. ⌜ verdictTold r ≡ askOf (now (message .entry)) ⌝ }
+{
+    match isup::scan(message) {
+        Scanned::Faulty(n, at) => Verdict::Refused(n, at),
+        Scanned::Whole(x) => {
+            let parts = x.parts;
+            let fixed = parts.fixed;
+            ask_in(message, x.kind, x.circuit as usize, fixed.from, parts.first)
+        }
+    }
+}

@@ -1,0 +1,117 @@
+// What the desk answers to the codec's requests: shape, read, write, compact, find.
+ghost use mathlib.Core.Path.{_≡_};
+ghost use Rattle.finding.specs.Find.{locateOf};
+ghost use Rattle.isup.specs.Write.{writeOf, compactOf};
+ghost use Rattle.finding.specs.Told.{locatedTold};
+ghost use Rattle.printing.specs.Sheet.{sheet, pour};
+ghost use Rattle.requests.specs.Words.{numberAt, octetsAt};
+ghost use Rattle.requests.specs.Along.{saidIn};
+ghost use Rattle.lines.specs.Lines.{octetsLine, lent};
+ghost use Rattle.codec_lines.specs.Codec.{foundLine, codecLine};
+use finding::Located;
+use requests::COMPACT;
+use requests::Field;
+use requests::READ;
+use requests::Request;
+use requests::SHAPE;
+use requests::WRITE;
+
+// Writes a message by its fields, and says what was written.
+fn say_write(fields: [Field; 8], octets: &[u8], out: &mut [u8]) -> usize
+    ensures { λ r. ⌜ sheet (now (out .exit)) r ≡ pour (sheet (now (out .entry)) 0)
+        (octetsLine (writeOf (numberAt (saidIn (now (octets .entry)) fields) 0) (numberAt (saidIn (now (octets .entry)) fields) 1)
+        (octetsAt (saidIn (now (octets .entry)) fields) 2) (octetsAt (saidIn (now (octets .entry)) fields) 3)
+        (octetsAt (saidIn (now (octets .entry)) fields) 4) (octetsAt (saidIn (now (octets .entry)) fields) 5)
+        (lent (numberAt (saidIn (now (octets .entry)) fields) 6)))) ⌝ }
+{
+    let circuit = fields[0];
+    let kind = fields[1];
+    let fixed = fields[2];
+    let first = fields[3];
+    let second = fields[4];
+    let optional = fields[5];
+    let room = fields[6];
+    let mut space = lines::blank_space();
+    let buffer = lines::front(&mut space, room.value as usize);
+    let written = isup::write(
+        circuit.value,
+        kind.value,
+        lines::stretch(octets, fixed.from, fixed.count as usize),
+        lines::stretch(octets, first.from, first.count as usize),
+        lines::stretch(octets, second.from, second.count as usize),
+        lines::stretch(octets, optional.from, optional.count as usize),
+        buffer,
+    );
+    lines::say_written(written, buffer, out)
+}
+
+// Writes a message again, and says what was written.
+fn say_compact(fields: [Field; 8], octets: &[u8], out: &mut [u8]) -> usize
+    ensures { λ r. ⌜ sheet (now (out .exit)) r ≡ pour (sheet (now (out .entry)) 0)
+        (octetsLine (compactOf (octetsAt (saidIn (now (octets .entry)) fields) 0) (lent (numberAt (saidIn (now (octets .entry)) fields) 1)))) ⌝ }
+{
+    let message = fields[0];
+    let room = fields[1];
+    let mut space = lines::blank_space();
+    let buffer = lines::front(&mut space, room.value as usize);
+    let written = isup::compact(
+        lines::stretch(octets, message.from, message.count as usize),
+        buffer,
+    );
+    lines::say_written(written, buffer, out)
+}
+
+// Says where a parameter was found, with its contents.
+fn say_located(located: Located, message: &[u8], defaults: &[u8], out: &mut [u8]) -> usize
+    ensures { λ r. ⌜ sheet (now (out .exit)) r ≡ pour (sheet (now (out .entry)) 0) (foundLine (now (message .entry)) (now (defaults .entry)) (locatedTold located)) ⌝ }
+{
+    match located {
+        Located::Message(at, len) => {
+            lines::put_shown(b"message ", lines::stretch(message, at, len), out, 0)
+        }
+        Located::Defaults(at, len) => {
+            lines::put_shown(b"defaults ", lines::stretch(defaults, at, len), out, 0)
+        }
+        Located::Refused(n, _) => lines::say_refusal(n, out),
+    }
+}
+
+// Finds a parameter, and says where it was found.
+fn say_find(fields: [Field; 8], octets: &[u8], out: &mut [u8]) -> usize
+    ensures { λ r. ⌜ sheet (now (out .exit)) r ≡ pour (sheet (now (out .entry)) 0)
+        (foundLine (octetsAt (saidIn (now (octets .entry)) fields) 1) (octetsAt (saidIn (now (octets .entry)) fields) 2)
+        (locateOf (octetsAt (saidIn (now (octets .entry)) fields) 1) (octetsAt (saidIn (now (octets .entry)) fields) 2) (numberAt (saidIn (now (octets .entry)) fields) 0))) ⌝ }
+{
+    let name = fields[0];
+    let message_field = fields[1];
+    let defaults_field = fields[2];
+    let message = lines::stretch(octets, message_field.from, message_field.count as usize);
+    let defaults = lines::stretch(octets, defaults_field.from, defaults_field.count as usize);
+    let located = finding::locate(message, defaults, name.value);
+    say_located(located, message, defaults, out)
+}
+
+// Puts the answer's line to one of the codec's requests at the front of `out`, and answers the next place. What `out` has no room for is left out.
+pub fn codec_line(request: Request, octets: &[u8], out: &mut [u8]) -> usize
+    ensures { λ r. ⌜ sheet (now (out .exit)) r ≡ pour (sheet (now (out .entry)) 0) (codecLine (request .which) (saidIn (now (octets .entry)) (request .fields))) ⌝ }
+{
+    let fields = request.fields;
+    if request.which == SHAPE {
+        let kind = fields[0];
+        return read_lines::say_shape((kind.value % 256) as u8, out);
+    }
+    if request.which == READ {
+        let message = fields[0];
+        return read_lines::say_read(
+            lines::stretch(octets, message.from, message.count as usize),
+            out,
+        );
+    }
+    if request.which == WRITE {
+        return say_write(fields, octets, out);
+    }
+    if request.which == COMPACT {
+        return say_compact(fields, octets, out);
+    }
+    say_find(fields, octets, out)
+}

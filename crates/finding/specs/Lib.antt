@@ -1,0 +1,4 @@
+pub mod Find
+pub mod Told
+pub mod FoundAt
+pub mod Faults

@@ -1,0 +1,25 @@
+-- Wrong programs, each refuted on one call: what it answers is not what the definition says.
+use mathlib.Core.Path.{_≡_, refl}
+use mathlib.Core.Bool.{true, false}
+use mathlib.Core.List.{[], _∷_}
+use Rattle.octets.specs.Answer.{refused}
+use Rattle.runs.specs.Run.{stepAt, stops, stopFrom}
+use Rattle.layout.specs.declared.Shape.{Shape}
+use Rattle.layout.specs.declared.Row.the-variants.{Has}
+use Rattle.layout.specs.Container.{runFrom, variableAt, optionalAt, variableSlot, optionalSlot, sharesOf, judged, held, containerOf, partsOf}
+
+-- a row of four variable parts: a reader that looks at three pointers takes this message, whose fourth pointer is 0
+abbrev pub four : Shape
+four = record { fixed = 0; vars = 4; opt = false }
+
+pub four-unread : partsOf (1 ∷ 4 ∷ 4 ∷ 4 ∷ 0 ∷ 0 ∷ 0 ∷ 0 ∷ []) 0 268 (Has four) ≡ refused 3 0
+unfolding stepAt stops stopFrom runFrom variableAt optionalAt variableSlot optionalSlot sharesOf judged held containerOf partsOf
+four-unread = refl
+
+-- two variable parts and an optional part: the second and the optional one share octet 6, and a check that misses this pair takes the message
+abbrev pub two : Shape
+two = record { fixed = 0; vars = 2; opt = true }
+
+pub pair-refused : partsOf (1 ∷ 3 ∷ 3 ∷ 3 ∷ 0 ∷ 1 ∷ 0 ∷ []) 0 268 (Has two) ≡ refused 8 6
+unfolding stepAt stops stopFrom runFrom variableAt optionalAt variableSlot optionalSlot sharesOf judged held containerOf partsOf
+pair-refused = refl

@@ -1,0 +1,77 @@
+// What the lines of the desk's answers have in common: a word with a number or with octets, a refusal, what was written to a lent buffer.
+ghost use mathlib.Core.Path.{_≡_};
+ghost use mathlib.Core.List.{_++_};
+ghost use lib.ListN.{length, take};
+ghost use Rattle.octets.specs.Octet.{octets};
+ghost use Rattle.octets.specs.Told.{writtenTold};
+ghost use Rattle.printing.specs.Sheet.{sheet, pour};
+ghost use Rattle.printing.specs.Shown.{decimalOf, hexOf};
+ghost use Rattle.lines.specs.Lines.{refusal, writtenLine, blank};
+use octets::Written;
+
+// How many octets of answer buffer a line may lend.
+const ROOM_MOST: usize = 1024;
+
+// A buffer of as many octets as a line may lend, all 0.
+pub fn blank_space() -> [u8; 1024]
+    ensures { λ r. ⌜ (r ≡ blank) × (length r ≡ 1024) ⌝ }
+{
+    [0u8; ROOM_MOST]
+}
+
+// The front of a lent buffer: so many octets, as many of them as there are.
+pub fn front(buffer: &mut [u8], count: usize) -> &mut [u8]
+    ensures { λ r. ⌜ now r ≡ take count (now (buffer .entry)) ⌝ }
+{
+    if buffer.len() < count {
+        return buffer;
+    }
+    &mut buffer[..count]
+}
+
+// So many octets from a place on, as many of them as there are.
+pub fn stretch(all: &[u8], from: usize, count: usize) -> &[u8]
+    ensures { λ r. ⌜ now r ≡ octets (now (all .entry)) from count ⌝ }
+{
+    if all.len() < from {
+        return &all[0..0];
+    }
+    if all.len() - from < count {
+        return &all[from..];
+    }
+    let to = from + count;
+    &all[from..to]
+}
+
+// Puts a word with a number after it, and answers the next place.
+pub fn put_count(word: &[u8], number: u32, out: &mut [u8], at: usize) -> usize
+    ensures { λ r. ⌜ sheet (now (out .exit)) r ≡ pour (sheet (now (out .entry)) at) (now (word .entry) ++ decimalOf number) ⌝ }
+{
+    let next = printing::put_text(word, out, at);
+    printing::put_number(number, out, next)
+}
+
+// Puts a word with octets after it, and answers the next place.
+pub fn put_shown(word: &[u8], octets: &[u8], out: &mut [u8], at: usize) -> usize
+    ensures { λ r. ⌜ sheet (now (out .exit)) r ≡ pour (sheet (now (out .entry)) at) (now (word .entry) ++ hexOf (now (octets .entry))) ⌝ }
+{
+    let next = printing::put_text(word, out, at);
+    printing::put_octets(octets, out, next)
+}
+
+// Puts refused N at the front, and answers the next place.
+pub fn say_refusal(number: u8, out: &mut [u8]) -> usize
+    ensures { λ r. ⌜ sheet (now (out .exit)) r ≡ pour (sheet (now (out .entry)) 0) (refusal number) ⌝ }
+{
+    put_count(b"refused ", number as u32, out, 0)
+}
+
+// Puts what was written to the front of a buffer, or the refusal, and answers the next place.
+pub fn say_written(written: Written, buffer: &[u8], out: &mut [u8]) -> usize
+    ensures { λ r. ⌜ sheet (now (out .exit)) r ≡ pour (sheet (now (out .entry)) 0) (writtenLine (writtenTold written) (now (buffer .entry))) ⌝ }
+{
+    match written {
+        Written::Octets(n) => put_shown(b"octets ", stretch(buffer, 0, n), out, 0),
+        Written::Refused(n, _) => say_refusal(n, out),
+    }
+}

@@ -1,0 +1,4 @@
+pub mod Near
+pub mod Outcome
+pub mod Determined
+pub mod Refutations

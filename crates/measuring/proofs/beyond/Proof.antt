@@ -1,0 +1,12 @@
+use borrow.Author.Needs.{needs}
+use Rattle.measuring.proofs.beyond.Statement.{statement}
+use Rattle.measuring.proofs.beyond.Tie as tie
+
+returns : tie.Need-returns
+returns c = simp (c .if1 .taken)
+
+returns-2 : tie.Need-returns-2
+returns-2 c = search needs
+
+pub beyond-spec : {M : Type 1} → statement M
+beyond-spec = tie.close (tie.spec returns returns-2)

@@ -1,0 +1,87 @@
+// What the desk answers to the requests for called party numbers: number, dial.
+ghost use mathlib.Core.Path.{_≡_};
+ghost use Rattle.number.specs.Read.{readAnswer, readNumberOf};
+ghost use Rattle.number.specs.Write.{writeNumberOf};
+ghost use Rattle.printing.specs.Sheet.{sheet, pour};
+ghost use Rattle.requests.specs.Along.{saidIn};
+ghost use Rattle.lines.specs.Lines.{octetsLine, lent};
+ghost use Rattle.number_lines.specs.Numbers.{signalsLine, numberLine, numbersLine};
+use number::NumberRead;
+use requests::NUMBER;
+use requests::Request;
+
+// What reading a number found, its signals at the front of a buffer.
+fn say_values(values: NumberRead, buffer: &[u8], out: &mut [u8]) -> usize
+    ensures { λ r. ⌜ sheet (now (out .exit)) r ≡ pour (sheet (now (out .entry)) 0) (signalsLine (readAnswer values) (now (buffer .entry))) ⌝ }
+{
+    match values {
+        NumberRead::Refused(n) => lines::say_refusal(n, out),
+        NumberRead::Read(x) => {
+            let nature = lines::put_count(b"nature ", x.nature as u32, out, 0);
+            let plan = lines::put_count(b" plan ", x.plan as u32, out, nature);
+            let internal = lines::put_count(b" internal ", x.internal as u32, out, plan);
+            lines::put_shown(
+                b" signals ",
+                lines::stretch(buffer, 0, x.count),
+                out,
+                internal,
+            )
+        }
+    }
+}
+
+// Reads a number, and says what it is.
+fn say_number(contents: &[u8], room: usize, out: &mut [u8]) -> usize
+    ensures { λ r. ⌜ sheet (now (out .exit)) r ≡ pour (sheet (now (out .entry)) 0) (numberLine (readNumberOf (now (contents .entry)) (lent room))) ⌝ }
+{
+    let mut space = lines::blank_space();
+    let buffer = lines::front(&mut space, room);
+    let values = number::read_number(contents, buffer);
+    say_values(values, buffer, out)
+}
+
+// Writes a number, and says what was written.
+fn say_dial(
+    nature: u32,
+    plan: u32,
+    internal: u32,
+    signals: &[u8],
+    room: usize,
+    out: &mut [u8],
+) -> usize
+    ensures { λ r. ⌜ sheet (now (out .exit)) r ≡ pour (sheet (now (out .entry)) 0) (octetsLine (writeNumberOf nature plan internal (now (signals .entry)) (lent room))) ⌝ }
+{
+    let mut space = lines::blank_space();
+    let buffer = lines::front(&mut space, room);
+    let written = number::write_number(nature, plan, internal, signals, buffer);
+    lines::say_written(written, buffer, out)
+}
+
+// Puts the answer's line to a request for a called party number at the front of `out`, and answers the next place. What `out` has no room for is left out.
+pub fn numbers_line(request: Request, octets: &[u8], out: &mut [u8]) -> usize
+    ensures { λ r. ⌜ sheet (now (out .exit)) r ≡ pour (sheet (now (out .entry)) 0) (numbersLine (request .which) (saidIn (now (octets .entry)) (request .fields))) ⌝ }
+{
+    let fields = request.fields;
+    if request.which == NUMBER {
+        let contents = fields[0];
+        let room = fields[1];
+        return say_number(
+            lines::stretch(octets, contents.from, contents.count as usize),
+            room.value as usize,
+            out,
+        );
+    }
+    let nature = fields[0];
+    let plan = fields[1];
+    let internal = fields[2];
+    let signals = fields[3];
+    let room = fields[4];
+    say_dial(
+        nature.value,
+        plan.value,
+        internal.value,
+        lines::stretch(octets, signals.from, signals.count as usize),
+        room.value as usize,
+        out,
+    )
+}

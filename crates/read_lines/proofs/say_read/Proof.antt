@@ -1,0 +1,52 @@
+use Rattle.printing.specs.Sheet.{sheet, pour}
+use Rattle.isup.specs.Told.{scanTold}
+use Rattle.isup.specs.declared.Message.{Message}
+use Rattle.octets.specs.Answer.{Answer}
+use Rattle.read_lines.specs.Read.{readLine}
+use denote.Ref.{now}
+use mathlib.Core.Path.{sym, _∙_, ap}
+use borrow.Author.Needs.{needs}
+use Rattle.read_lines.proofs.say_read.Statement.{statement}
+use Rattle.read_lines.proofs.say_read.Tie as tie
+
+scan-requires : tie.Need-scan-requires
+scan-requires c κs = search needs
+
+enum-known-n : tie.Need-enum-known-n
+enum-known-n c = search needs
+
+say-refusal-requires : tie.Need-say-refusal-requires
+say-refusal-requires c κs = search needs
+
+enum-known-x : tie.Need-enum-known-x
+enum-known-x c = search needs
+
+say-message-requires : tie.Need-say-message-requires
+say-message-requires c κs = search needs
+
+same-length : tie.Need-same-length
+same-length c = search needs
+
+returns : tie.Need-returns
+unfolding readLine
+returns c = (c .before .before .say-refusal .ensures) ∙ ap (λ (x : Answer Message). pour (sheet (now (c .before .before .before .before .before .before .before .before .before .before .args .out)) 0) (readLine (now (c .before .before .before .before .before .before .before .before .before .before .args .message)) x)) (sym (ap scanTold (c .before .before .before .before .before .n .given .1)) ∙ c .before .before .before .before .before .before .before .scan .ensures)
+
+same-length-2 : tie.Need-same-length-2
+same-length-2 c = search needs
+
+returns-2 : tie.Need-returns-2
+returns-2 c = (c .before .before .say-message .ensures) ∙ ap (λ (x : Answer Message). pour (sheet (now (c .before .before .before .before .before .before .before .before .before .before .args .out)) 0) (readLine (now (c .before .before .before .before .before .before .before .before .before .before .args .message)) x)) (sym (ap scanTold (c .before .before .before .before .before .x .given .1)) ∙ c .before .before .before .before .before .before .before .scan .ensures)
+
+pub say-read-spec : {M : Type 1} → statement M
+say-read-spec =
+    tie.close
+    (tie.spec
+    scan-requires
+    enum-known-n
+    say-refusal-requires
+    enum-known-x
+    say-message-requires
+    same-length
+    returns
+    same-length-2
+    returns-2)

@@ -1,0 +1,72 @@
+// What the desk says of a type's shape, and of a message.
+ghost use mathlib.Core.Path.{_≡_};
+ghost use Rattle.layout.specs.Spans.{partOf};
+ghost use Rattle.isup.specs.Table.{shapeOf};
+ghost use Rattle.isup.specs.Read.{readOf};
+ghost use Rattle.isup.specs.Told.{scanTold};
+ghost use Rattle.printing.specs.Sheet.{sheet, pour};
+ghost use Rattle.read_lines.specs.Read.{shapeLine, partsLine, readLine};
+use isup::Message;
+use isup::Scanned;
+use layout::Parts;
+use layout::Row;
+use layout::Span;
+
+// The octets of a span of a message.
+fn part(message: &[u8], span: Span) -> &[u8]
+    ensures { λ r. ⌜ now r ≡ partOf (now (message .entry)) span ⌝ }
+{
+    let from = span.from;
+    let to = span.to;
+    if to < from {
+        return lines::stretch(message, from, 0);
+    }
+    lines::stretch(message, from, to - from)
+}
+
+// Puts what a type's shape is at the front of `out`, and answers the next place.
+pub fn say_shape(kind: u8, out: &mut [u8]) -> usize
+    ensures { λ r. ⌜ sheet (now (out .exit)) r ≡ pour (sheet (now (out .entry)) 0) (shapeLine (shapeOf kind)) ⌝ }
+{
+    match isup::shape_of(kind) {
+        Row::Unknown => lines::say_refusal(3, out),
+        Row::Has(shape) => {
+            let fixed = lines::put_count(b"fixed ", shape.fixed as u32, out, 0);
+            let variable = lines::put_count(b" variable ", shape.vars as u32, out, fixed);
+            if shape.opt {
+                return printing::put_text(b" optional yes", out, variable);
+            }
+            printing::put_text(b" optional no", out, variable)
+        }
+    }
+}
+
+// Puts the parts of a message.
+fn put_parts(message: &[u8], parts: Parts, out: &mut [u8], at: usize) -> usize
+    ensures { λ r. ⌜ sheet (now (out .exit)) r ≡ pour (sheet (now (out .entry)) at) (partsLine (now (message .entry)) parts) ⌝ }
+{
+    let fixed = lines::put_shown(b" fixed ", part(message, parts.fixed), out, at);
+    let first = lines::put_shown(b" first ", part(message, parts.first), out, fixed);
+    let second = lines::put_shown(b" second ", part(message, parts.second), out, first);
+    lines::put_shown(b" optional ", part(message, parts.optional), out, second)
+}
+
+// What a message says that reads so.
+fn say_message(message: &[u8], x: Message, out: &mut [u8]) -> usize
+    ensures { λ r. ⌜ sheet (now (out .exit)) r ≡ pour (sheet (now (out .entry)) 0) (readLine (now (message .entry)) (scanTold (Scanned.Whole x))) ⌝ }
+{
+    let parts = x.parts;
+    let circuit = lines::put_count(b"circuit ", x.circuit as u32, out, 0);
+    let kind = lines::put_shown(b" type ", &[x.kind], out, circuit);
+    put_parts(message, parts, out, kind)
+}
+
+// Puts what a message says at the front of `out`, and answers the next place.
+pub fn say_read(message: &[u8], out: &mut [u8]) -> usize
+    ensures { λ r. ⌜ sheet (now (out .exit)) r ≡ pour (sheet (now (out .entry)) 0) (readLine (now (message .entry)) (readOf (now (message .entry)))) ⌝ }
+{
+    match isup::scan(message) {
+        Scanned::Faulty(n, _) => lines::say_refusal(n, out),
+        Scanned::Whole(x) => say_message(message, x, out),
+    }
+}

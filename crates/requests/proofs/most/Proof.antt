@@ -1,0 +1,23 @@
+use Rattle.octets.proofs.Tests.{tests}
+use Rattle.requests.specs.Table.{mostOf}
+use Rattle.requests.proofs.most.Statement.{statement}
+use Rattle.requests.proofs.most.Tie as tie
+
+returns : tie.Need-returns
+unfolding mostOf
+returns c = search tests
+
+returns-2 : tie.Need-returns-2
+unfolding mostOf
+returns-2 c = search tests
+
+returns-3 : tie.Need-returns-3
+unfolding mostOf
+returns-3 c = search tests
+
+returns-4 : tie.Need-returns-4
+unfolding mostOf
+returns-4 c = search tests
+
+pub most-spec : {M : Type 1} → statement M
+most-spec = tie.close (tie.spec returns returns-2 returns-3 returns-4)

@@ -1,0 +1,71 @@
+-- Written by tools/forms.
+use Rattle.requests.specs.Table.{forms}
+use Rattle.requests.specs.Inside.{letterOf, lettersAll, digitsOf, keyOf, rowIn}
+use Rattle.requests.proofs.Keys.{row-none}
+use Rattle.requests.proofs.row_of.Statement.{statement}
+use Rattle.requests.proofs.row_of.Tie as tie
+
+returns : tie.Need-returns
+unfolding rowIn keyOf digitsOf lettersAll letterOf
+returns c = rw (c .match .keys1)
+
+returns-2 : tie.Need-returns-2
+unfolding rowIn keyOf digitsOf lettersAll letterOf
+returns-2 c = rw (c .match .keys2)
+
+returns-3 : tie.Need-returns-3
+unfolding rowIn keyOf digitsOf lettersAll letterOf
+returns-3 c = rw (c .match .keys3)
+
+returns-4 : tie.Need-returns-4
+unfolding rowIn keyOf digitsOf lettersAll letterOf
+returns-4 c = rw (c .match .keys4)
+
+returns-5 : tie.Need-returns-5
+unfolding rowIn keyOf digitsOf lettersAll letterOf
+returns-5 c = rw (c .match .keys5)
+
+returns-6 : tie.Need-returns-6
+unfolding rowIn keyOf digitsOf lettersAll letterOf
+returns-6 c = rw (c .match .keys6)
+
+returns-7 : tie.Need-returns-7
+unfolding rowIn keyOf digitsOf lettersAll letterOf
+returns-7 c = rw (c .match .keys7)
+
+returns-8 : tie.Need-returns-8
+unfolding rowIn keyOf digitsOf lettersAll letterOf
+returns-8 c = rw (c .match .keys8)
+
+returns-9 : tie.Need-returns-9
+unfolding rowIn keyOf digitsOf lettersAll letterOf
+returns-9 c = rw (c .match .keys9)
+
+returns-10 : tie.Need-returns-10
+unfolding rowIn keyOf digitsOf lettersAll letterOf
+returns-10 c = rw (c .match .keys10)
+
+returns-11 : tie.Need-returns-11
+unfolding rowIn keyOf digitsOf lettersAll letterOf
+returns-11 c = rw (c .match .keys11)
+
+returns-12 : tie.Need-returns-12
+unfolding keyOf digitsOf lettersAll letterOf
+returns-12 c = row-none forms _ (c .match .rest)
+
+pub row-of-spec : {M : Type 1} → statement M
+row-of-spec =
+    tie.close
+    (tie.spec
+    returns
+    returns-2
+    returns-3
+    returns-4
+    returns-5
+    returns-6
+    returns-7
+    returns-8
+    returns-9
+    returns-10
+    returns-11
+    returns-12)

@@ -1,0 +1,59 @@
+use mathlib.Core.Path.{refl}
+use borrow.Author.Needs.{needs}
+use borrow.Author.Tests.{eq-eqb, ne-eqb}
+use Rattle.requests.specs.Table.{kindOf}
+use Rattle.requests.proofs.value_of.Statement.{statement}
+use Rattle.requests.proofs.value_of.Tie as tie
+
+octet-of-requires : tie.Need-octet-of-requires
+octet-of-requires c κs = search needs
+
+returns : tie.Need-returns
+unfolding kindOf
+returns c = rw (eq-eqb _ _ (c .before .if1 .taken), c .octet-of .ensures) refl
+
+octets-into-requires : tie.Need-octets-into-requires
+octets-into-requires c κs = search needs
+
+same-length : tie.Need-same-length
+same-length c = search needs
+
+returns-2 : tie.Need-returns-2
+unfolding kindOf
+returns-2 c = rw (ne-eqb _ _ (c .before .before .before .before .before .if1 .left), eq-eqb _ _ (c .before .before .before .before .if2 .taken)) (c .before .before .octets-into .ensures)
+
+number-of-requires : tie.Need-number-of-requires
+number-of-requires c κs = search needs
+
+not-below-requires : tie.Need-not-below-requires
+not-below-requires c κs = search needs
+
+returns-3 : tie.Need-returns-3
+unfolding kindOf
+returns-3 c = rw (ne-eqb _ _ (c .before .before .before .before .if1 .left), ne-eqb _ _ (c .before .before .before .if2 .left), eq-eqb _ _ (c .before .before .if3 .taken), c .not-below .ensures, c .before .number-of .ensures) refl
+
+most-requires : tie.Need-most-requires
+most-requires c κs = search needs
+
+number-of-requires-2 : tie.Need-number-of-requires-2
+number-of-requires-2 c κs = search needs
+
+returns-4 : tie.Need-returns-4
+unfolding kindOf
+returns-4 c = rw (ne-eqb _ _ (c .before .before .before .before .if1 .left), ne-eqb _ _ (c .before .before .before .if2 .left), ne-eqb _ _ (c .before .before .if3 .left), c .number-of2 .ensures, c .before .most .ensures) refl
+
+pub value-of-spec : {M : Type 1} → statement M
+value-of-spec =
+    tie.close
+    (tie.spec
+    octet-of-requires
+    returns
+    octets-into-requires
+    same-length
+    returns-2
+    number-of-requires
+    not-below-requires
+    returns-3
+    most-requires
+    number-of-requires-2
+    returns-4)

@@ -1,0 +1,55 @@
+-- What the code's own contracts use: a word as a number, by which its row is found, and the letters of a row in one number.
+use Prim.Native.Nat.{ℕ, zero, suc, _+_, _*_, _-_, _/_, _%_}
+use mathlib.Core.Bool.{Bool, true, false}
+use mathlib.Core.List.{List, [], _∷_}
+use lib.Dec.{ltb, eqb}
+use lib.ListN.{length}
+use Rattle.octets.specs.Choice.{if_then_else_}
+use Rattle.requests.specs.declared.Row.{Row}
+use Rattle.requests.specs.Kinds.{Kind}
+use Rattle.requests.specs.Table.{Form, kindOf}
+use Rattle.requests.specs.Rows.{BAD}
+
+-- the letters of a word with a number, at the most: one more and it does not fit 64 bits
+abbrev pub wordMost : ℕ
+wordMost = 12
+
+-- a to z are 1 to 26, a dash is 27; 0 for any other octet
+unfoldable pub letterOf : ℕ → ℕ
+letterOf c =
+    if ltb 122 c then 0
+    else if ltb 96 c then c - 96
+    else if eqb c 45 then 27
+    else 0
+
+-- whether each octet is a letter
+unfoldable pub lettersAll : List ℕ → Bool
+lettersAll [] = true
+lettersAll (c ∷ cs) = if eqb (letterOf c) 0 then false else lettersAll cs
+
+-- 32 for each place, the first letter first
+unfoldable pub digitsOf : List ℕ → ℕ
+digitsOf [] = 0
+digitsOf (c ∷ cs) = 32 * digitsOf cs + letterOf c
+
+-- the number that stands for a word, 0 where it has none: no two words have the same
+unfoldable pub keyOf : List ℕ → ℕ
+keyOf word =
+    if ltb wordMost (length word) then 0
+    else if lettersAll word then digitsOf word
+    else 0
+
+-- letters in one number: 256 for each place, the first letter first
+abbrev pub lettersPacked : List ℕ → ℕ
+lettersPacked [] = 0
+lettersPacked (c ∷ cs) = c + 256 * lettersPacked cs
+
+-- the kinds of up to n letters
+unfoldable pub kindsIn : ℕ → ℕ → List Kind
+kindsIn zero letters = []
+kindsIn (suc n) letters = if eqb letters 0 then [] else kindOf (letters % 256) ∷ kindsIn n (letters / 256)
+
+-- the row of a key, from row `which` on
+unfoldable pub rowIn : List Form → ℕ → ℕ → Row
+rowIn [] which key = record { which = BAD; letters = 0 }
+rowIn (f ∷ fs) which key = if eqb key (keyOf (f .word)) then record { which = which; letters = lettersPacked (f .letters) } else rowIn fs (suc which) key

@@ -1,0 +1,50 @@
+-- The rows by name. Written by tools/forms.
+use Prim.Native.Nat.{ℕ}
+
+-- shape TYPE
+abbrev pub SHAPE : ℕ
+SHAPE = 0
+
+-- read MESSAGE
+abbrev pub READ : ℕ
+READ = 1
+
+-- write CIRCUIT TYPE FIXED FIRST SECOND OPTIONAL ROOM
+abbrev pub WRITE : ℕ
+WRITE = 2
+
+-- compact MESSAGE ROOM
+abbrev pub COMPACT : ℕ
+COMPACT = 3
+
+-- find NAME MESSAGE DEFAULTS
+abbrev pub FIND : ℕ
+FIND = 4
+
+-- number CONTENTS ROOM
+abbrev pub NUMBER : ℕ
+NUMBER = 5
+
+-- dial NATURE PLAN INTERNAL SIGNALS ROOM
+abbrev pub DIAL : ℕ
+DIAL = 6
+
+-- own FIRST LAST SENDER
+abbrev pub OWN : ℕ
+OWN = 7
+
+-- set FIRST LAST STATE
+abbrev pub SET : ℕ
+SET = 8
+
+-- rows FIRST LAST
+abbrev pub ROWS : ℕ
+ROWS = 9
+
+-- act SENDER MESSAGE ROOM
+abbrev pub ACT : ℕ
+ACT = 10
+
+-- a line that is no request
+abbrev pub BAD : ℕ
+BAD = 255

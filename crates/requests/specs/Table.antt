@@ -1,0 +1,92 @@
+-- The forms of the desk's requests, a row for each. tools/forms writes from it what the code and the proofs say row by row, and holds README.md to it.
+use Prim.Native.Nat.{ℕ, zero, suc}
+use Prim.Native.String.{String}
+use mathlib.Core.List.{List, [], _∷_, map}
+use lib.Dec.{eqb}
+use lib.ListN.{getD}
+use Rattle.octets.specs.Choice.{if_then_else_}
+use Rattle.words.specs.Said.{said}
+use Rattle.requests.specs.Kinds.{Kind, aNumber, aLast, anOctet, someOctets}
+
+-- the octets of a line, at the most
+abbrev pub lineMost : ℕ
+lineMost = 8192
+
+-- the fields of a request, at the most
+abbrev pub fieldsMost : ℕ
+fieldsMost = 8
+
+-- any number of 32 bits
+abbrev pub anyMost : ℕ
+anyMost = 4294967295
+
+-- the last circuit
+abbrev pub circuitMost : ℕ
+circuitMost = 4095
+
+-- the largest number of one octet
+abbrev pub octetMost : ℕ
+octetMost = 255
+
+-- the octets of answer buffer that a line may lend, at the most
+abbrev pub roomMost : ℕ
+roomMost = 1024
+
+-- the octets of one field, at the most
+abbrev pub octetsMost : ℕ
+octetsMost = 1024
+
+-- a letter, as its octet
+abbrev pub letter : String → ℕ
+letter text = getD (said text) 0 0
+
+-- the limit of a number by its letter: c a circuit, v a sender or a state, r room; any other (n) any number
+unfoldable pub mostOf : ℕ → ℕ
+mostOf l =
+    if eqb l (letter "c") then circuitMost
+    else if eqb l (letter "v") then octetMost
+    else if eqb l (letter "r") then roomMost
+    else anyMost
+
+-- the kind of a field by its letter: o an octet in two hexadecimal digits, s octets, l the last circuit of a span; any other a number
+unfoldable pub kindOf : ℕ → Kind
+kindOf l =
+    if eqb l (letter "o") then anOctet
+    else if eqb l (letter "s") then someOctets octetsMost
+    else if eqb l (letter "l") then aLast circuitMost
+    else aNumber (mostOf l)
+
+-- a request's form: its word, and a letter for the kind of each field
+pub record Form : Type 0 where
+  pub word : List ℕ
+  pub letters : List ℕ
+
+-- a form by its texts
+abbrev row : String → String → Form
+row word letters = record { word = said word; letters = said letters }
+
+-- the rows; those of one family stand together
+abbrev pub forms : List Form
+forms =
+    row "shape" "o"
+    ∷ row "read" "s"
+    ∷ row "write" "nossssr"
+    ∷ row "compact" "sr"
+    ∷ row "find" "oss"
+    ∷ row "number" "sr"
+    ∷ row "dial" "nnnsr"
+    ∷ row "own" "clv"
+    ∷ row "set" "clv"
+    ∷ row "rows" "cl"
+    ∷ row "act" "nsr"
+    ∷ []
+
+-- the kinds of a form's fields
+abbrev pub kindsOf : Form → List Kind
+kindsOf f = map kindOf (f .letters)
+
+-- the kinds of a row's fields; none past the last row
+abbrev pub kindsAt : List Form → ℕ → List Kind
+kindsAt [] which = []
+kindsAt (f ∷ fs) zero = kindsOf f
+kindsAt (f ∷ fs) (suc which) = kindsAt fs which

@@ -1,0 +1,12 @@
+-- Any two answers that a contract allows are equal.
+use Prim.Native.Nat.{ℕ}
+use mathlib.Core.Path.{_≡_, sym, _∙_}
+use mathlib.Core.Bool.{Bool}
+use Rattle.rows.specs.declared.Act.{Act}
+use Rattle.rows.specs.Rows.{isLegal, changedRow}
+
+pub legal-determined : (row : ℕ) (r s : Bool) → r ≡ isLegal row → s ≡ isLegal row → r ≡ s
+legal-determined row r s p q = p ∙ sym q
+
+pub changed-determined : (act : Act) (block row r s : ℕ) → r ≡ changedRow act block row → s ≡ changedRow act block row → r ≡ s
+changed-determined act block row r s p q = p ∙ sym q

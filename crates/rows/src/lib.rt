@@ -1,0 +1,69 @@
+// What a row says, and what becomes of it: one state octet for each circuit, 1 busy, 2 remotely blocked for maintenance, 4 for hardware, added up.
+ghost use mathlib.Core.Path.{_≡_};
+ghost use Rattle.rows.specs.Rows.{isLegal, blockedRow, unblockedRow, changedRow};
+
+// How many circuits the hub has: each table has a row for each.
+pub const CIRCUITS: usize = 4096;
+
+// What can be done to circuits: to one that is named alone, or to each marked one of a group.
+pub enum Act {
+    Seize,
+    Release,
+    Reset,
+    Block,
+    Unblock,
+    ResetGroup,
+    BlockGroup,
+    UnblockGroup,
+}
+
+// Whether a row is one that the paper has.
+pub fn legal(row: u8) -> bool
+    ensures { λ r. ⌜ r ≡ isLegal row ⌝ }
+{
+    match row {
+        0 => true,
+        1 => true,
+        2 => true,
+        3 => true,
+        4 => true,
+        6 => true,
+        _ => false,
+    }
+}
+
+// A row with a block of that kind set, 0 for maintenance; a block for hardware also ends busy.
+fn blocked(block: u8, row: u8) -> u8
+    ensures { λ r. ⌜ r ≡ blockedRow block row ⌝ }
+{
+    if block == 0 {
+        return row / 4 * 4 + 2 + row % 2;
+    }
+    (row / 8 * 8 + 4 + row % 4) / 2 * 2
+}
+
+// A row with a block of that kind cleared.
+fn unblocked(block: u8, row: u8) -> u8
+    ensures { λ r. ⌜ r ≡ unblockedRow block row ⌝ }
+{
+    if block == 0 {
+        return row / 4 * 4 + row % 2;
+    }
+    row / 8 * 8 + row % 4
+}
+
+// What an act makes of a marked circuit's row. Only the acts on groups come with a kind of block; a block of one circuit is for maintenance.
+pub fn changed(act: Act, block: u8, row: u8) -> u8
+    ensures { λ r. ⌜ r ≡ changedRow act block row ⌝ }
+{
+    match act {
+        Act::Seize => 1,
+        Act::Release => row / 2 * 2,
+        Act::Reset => 0,
+        Act::Block => blocked(0, row),
+        Act::Unblock => unblocked(0, row),
+        Act::ResetGroup => 0,
+        Act::BlockGroup => blocked(block, row),
+        Act::UnblockGroup => unblocked(block, row),
+    }
+}

@@ -1,0 +1,29 @@
+-- The samples hold: one theorem over each list, by the definitions that the code is proved to meet.
+use mathlib.Core.Path.{refl}
+use Rattle.runs.specs.Run.{stepAt, stops, stopFrom, isRun}
+use Rattle.layout.specs.Container.{runFrom, variableAt, optionalAt, variableSlot, optionalSlot, sharesOf, judged, held, containerOf, partsOf}
+use Rattle.writing.specs.Write.{pointers, ahead, variables, runPointer, closedRun, formOf, marks, exceeds, writtenOf}
+use Rattle.measuring.specs.Measure.{unfitOf}
+use Rattle.isup.specs.Table.{shapeOf}
+use Rattle.isup.specs.Read.{readOf}
+use Rattle.isup.specs.Write.{writeIn, compactIn}
+use Rattle.number.specs.Halves.{halves}
+use Rattle.number.specs.Contents.{signalsIn}
+use Rattle.octets.specs.Applied.{applied}
+use Rattle.rows.specs.Rows.{isLegal, blockedRow, unblockedRow, changedRow}
+use Rattle.asks.specs.Types.{actFor}
+use Rattle.asks.specs.Asks.{brokenReset, brokenGroup, askedIn, askOf, bitAt, markOf}
+use Rattle.hub.specs.Rights.{firstNot}
+use Rattle.hub.specs.Replies.{statusOctet, statusFrom, replyOf, replyLength}
+use Rattle.hub.specs.Acts.{allowedOf, grantOf, actOf}
+use Rattle.samples.specs.Samples.{paperRows, AllHold, ours, OursHold}
+
+-- the paper's twelve
+pub samples-hold : AllHold paperRows
+unfolding stepAt stops stopFrom runFrom isRun variableAt optionalAt variableSlot optionalSlot sharesOf judged held containerOf partsOf pointers ahead variables runPointer closedRun formOf unfitOf marks exceeds writtenOf shapeOf readOf writeIn compactIn brokenReset brokenGroup actFor askedIn askOf bitAt markOf isLegal firstNot applied blockedRow unblockedRow changedRow statusOctet statusFrom replyOf replyLength allowedOf grantOf actOf halves signalsIn
+samples-hold = (refl, (refl, (refl, (refl, (refl, (refl, (refl, (refl, (refl, (refl, (refl, (refl, tt))))))))))))
+
+-- our own, every type and kind of the hub
+pub ours-hold : OursHold ours
+unfolding stepAt stops stopFrom runFrom isRun variableAt optionalAt variableSlot optionalSlot sharesOf judged held containerOf partsOf pointers ahead variables runPointer closedRun formOf unfitOf marks exceeds writtenOf shapeOf readOf writeIn compactIn brokenReset brokenGroup actFor askedIn askOf bitAt markOf isLegal firstNot applied blockedRow unblockedRow changedRow statusOctet statusFrom replyOf replyLength allowedOf grantOf actOf halves signalsIn
+ours-hold = (refl, (refl, (refl, (refl, (refl, (refl, (refl, (refl, (refl, (refl, (refl, (refl, (refl, tt)))))))))))))

@@ -1,0 +1,139 @@
+use mathlib.Core.Path.{refl}
+use mathlib.Core.List.{[]}
+use borrow.Author.Tests.{eq-eqb, ne-eqb}
+use Rattle.requests.proofs.Said.{number-at}
+use Rattle.table_lines.specs.Tables.{tableTurn}
+use Rattle.table_lines.proofs.Leaving.{left-same, tables-same}
+use borrow.Author.Needs.{needs}
+use Rattle.table_lines.proofs.table_turn.Statement.{statement}
+use Rattle.table_lines.proofs.table_turn.Tie as tie
+
+array-copy-out-first : tie.Need-array-copy-out-first
+array-copy-out-first c = search needs
+
+array-copy-out-last : tie.Need-array-copy-out-last
+array-copy-out-last c = search needs
+
+array-copy-out-octet : tie.Need-array-copy-out-octet
+array-copy-out-octet c = search needs
+
+cast-spread-over : tie.Need-cast-spread-over
+cast-spread-over c = search needs
+
+cast-spread-over-2 : tie.Need-cast-spread-over-2
+cast-spread-over-2 c = search needs
+
+cast-spread-over-3 : tie.Need-cast-spread-over-3
+cast-spread-over-3 c = search needs
+
+spread-over-requires : tie.Need-spread-over-requires
+spread-over-requires c κs = search needs
+
+slice-aggregate-put-text : tie.Need-slice-aggregate-put-text
+slice-aggregate-put-text c = search needs
+
+put-text-requires : tie.Need-put-text-requires
+put-text-requires c κs = search needs
+
+same-length : tie.Need-same-length
+same-length c = search needs
+
+same-length-2 : tie.Need-same-length-2
+same-length-2 c = search needs
+
+returns : tie.Need-returns
+unfolding tableTurn
+returns c =
+    let f = c .before .before .before .before .before .before .before .before .before .before .before .before .before .before .before .before .before .before .before .before .before .args .request .fields in
+    rw (eq-eqb _ _ (c .before .before .before .before .before .before .before .before .before .before .before .before .if1 .taken), number-at [] f 0, number-at [] f 1, number-at [] f 2) (left-same (tables-same refl (c .before .before .before .before .before .before .before .spread-over .ensures)) (c .before .before .put-text .ensures))
+
+cast-spread-over-4 : tie.Need-cast-spread-over-4
+cast-spread-over-4 c = search needs
+
+cast-spread-over-5 : tie.Need-cast-spread-over-5
+cast-spread-over-5 c = search needs
+
+cast-spread-over-6 : tie.Need-cast-spread-over-6
+cast-spread-over-6 c = search needs
+
+spread-over-requires-2 : tie.Need-spread-over-requires-2
+spread-over-requires-2 c κs = search needs
+
+slice-aggregate-put-text-2 : tie.Need-slice-aggregate-put-text-2
+slice-aggregate-put-text-2 c = search needs
+
+put-text-requires-2 : tie.Need-put-text-requires-2
+put-text-requires-2 c κs = search needs
+
+same-length-3 : tie.Need-same-length-3
+same-length-3 c = search needs
+
+same-length-4 : tie.Need-same-length-4
+same-length-4 c = search needs
+
+returns-2 : tie.Need-returns-2
+unfolding tableTurn
+returns-2 c =
+    let f = c .before .before .before .before .before .before .before .before .before .before .before .before .before .before .before .before .before .before .before .before .before .before .before .args .request .fields in
+    rw (ne-eqb _ _ (c .before .before .before .before .before .before .before .before .before .before .before .before .before .before .if1 .left), eq-eqb _ _ (c .before .before .before .before .before .before .before .before .before .before .before .before .if2 .taken), number-at [] f 0, number-at [] f 1, number-at [] f 2) (left-same (tables-same (c .before .before .before .before .before .before .before .spread-over2 .ensures) refl) (c .before .before .put-text2 .ensures))
+
+span-requires : tie.Need-span-requires
+span-requires c κs = search needs
+
+slice-aggregate-put-shown : tie.Need-slice-aggregate-put-shown
+slice-aggregate-put-shown c = search needs
+
+cast-stretch : tie.Need-cast-stretch
+cast-stretch c = search needs
+
+stretch-requires : tie.Need-stretch-requires
+stretch-requires c κs = search needs
+
+put-shown-requires : tie.Need-put-shown-requires
+put-shown-requires c κs = search needs
+
+same-length-5 : tie.Need-same-length-5
+same-length-5 c = search needs
+
+same-length-6 : tie.Need-same-length-6
+same-length-6 c = search needs
+
+returns-3 : tie.Need-returns-3
+unfolding tableTurn
+returns-3 c =
+    let f = c .before .before .before .before .before .before .before .before .before .before .before .before .before .before .before .before .before .before .before .before .args .request .fields in
+    rw (ne-eqb _ _ (c .before .before .before .before .before .before .before .before .before .before .before .if1 .left), ne-eqb _ _ (c .before .before .before .before .before .before .before .before .before .if2 .left), number-at [] f 0, number-at [] f 1) (left-same refl (rw (c .before .before .before .before .stretch .ensures, c .before .before .before .before .before .before .before .before .span .ensures) at (c .before .before .put-shown .ensures)))
+
+pub table-turn-spec : {M : Type 1} → statement M
+table-turn-spec =
+    tie.close
+    (tie.spec
+    array-copy-out-first
+    array-copy-out-last
+    array-copy-out-octet
+    cast-spread-over
+    cast-spread-over-2
+    cast-spread-over-3
+    spread-over-requires
+    slice-aggregate-put-text
+    put-text-requires
+    same-length
+    same-length-2
+    returns
+    cast-spread-over-4
+    cast-spread-over-5
+    cast-spread-over-6
+    spread-over-requires-2
+    slice-aggregate-put-text-2
+    put-text-requires-2
+    same-length-3
+    same-length-4
+    returns-2
+    span-requires
+    slice-aggregate-put-shown
+    cast-stretch
+    stretch-requires
+    put-shown-requires
+    same-length-5
+    same-length-6
+    returns-3)

@@ -1,0 +1,119 @@
+// What the desk answers to the requests of the tables (own, set, rows) and of the hub (act), and what they leave in the tables.
+ghost use mathlib.Core.Path.{_≡_};
+ghost use mathlib.Core.List.{[]};
+ghost use Prim.Native.Nat.{_+_, _-_};
+ghost use Rattle.octets.specs.Told.{writtenTold};
+ghost use Rattle.hub.specs.Tables.{tables};
+ghost use Rattle.printing.specs.Sheet.{sheet, pour};
+ghost use Rattle.requests.specs.Along.{saidIn};
+ghost use Rattle.table_lines.specs.Tables.{left, leftBy, spread, tableTurn, replyLine, actTurn};
+ghost use Rattle.table_lines.specs.Inside.{spanEnd};
+use octets::Written;
+use requests::OWN;
+use requests::Request;
+use requests::SET;
+
+// How many entries there are from the first to the last.
+fn span(first: u32, last: u32) -> usize
+    ensures { λ r. ⌜ r ≡ last + 1 - first ⌝ }
+{
+    if last < first {
+        return 0;
+    }
+    (last - first) as usize + 1
+}
+
+// Where the entries up to the last end in a table of that length.
+fn end_of(length: usize, last: usize) -> usize
+    ensures { λ r. ⌜ r ≡ spanEnd «length» last ⌝ }
+{
+    if last < length {
+        return last + 1;
+    }
+    length
+}
+
+// Makes each entry of a table from the first to the last that octet, as many of them as there are.
+fn spread_over(table: &mut [u8], first: usize, last: usize, octet: u8)
+    ensures { λ r. ⌜ now (table .exit) ≡ spread (now (table .entry)) first last octet ⌝ }
+{
+    let end = end_of(table.len(), last);
+    let mut place = first;
+    while place < end {
+        table[place] = octet;
+        place += 1;
+    }
+}
+
+// Does one of the requests of the tables, puts its line at the front of `out`, and answers the next place. Its fields are numbers, so the scratch says nothing of them.
+pub fn table_turn(request: Request, states: &mut [u8], owners: &mut [u8], out: &mut [u8]) -> usize
+    ensures { λ r. ⌜ left (tables (now (states .exit)) (now (owners .exit))) (sheet (now (out .exit)) r) ≡
+        leftBy (tableTurn (tables (now (states .entry)) (now (owners .entry))) (request .which) (saidIn [] (request .fields))) (sheet (now (out .entry)) 0) ⌝ }
+{
+    let fields = request.fields;
+    let first = fields[0];
+    let last = fields[1];
+    let octet = fields[2];
+    if request.which == OWN {
+        spread_over(
+            owners,
+            first.value as usize,
+            last.value as usize,
+            (octet.value % 256) as u8,
+        );
+        return printing::put_text(b"ok", out, 0);
+    }
+    if request.which == SET {
+        spread_over(
+            states,
+            first.value as usize,
+            last.value as usize,
+            (octet.value % 256) as u8,
+        );
+        return printing::put_text(b"ok", out, 0);
+    }
+    let count = span(first.value, last.value);
+    lines::put_shown(
+        b"rows ",
+        lines::stretch(states, first.value as usize, count),
+        out,
+        0,
+    )
+}
+
+// What the hub answered, its octets at the front of a buffer.
+fn say_acted(acted: Written, buffer: &[u8], out: &mut [u8]) -> usize
+    ensures { λ r. ⌜ sheet (now (out .exit)) r ≡ pour (sheet (now (out .entry)) 0) (replyLine (writtenTold acted) (now (buffer .entry))) ⌝ }
+{
+    match acted {
+        Written::Octets(n) => lines::put_shown(b"answer ", lines::stretch(buffer, 0, n), out, 0),
+        Written::Refused(n, _) => lines::say_refusal(n, out),
+    }
+}
+
+// Hands the message of an act to the hub, puts its line at the front of `out`, and answers the next place.
+pub fn act_turn(
+    request: Request,
+    octets: &[u8],
+    states: &mut [u8],
+    owners: &[u8],
+    out: &mut [u8],
+) -> usize
+    ensures { λ r. ⌜ left (tables (now (states .exit)) (now (owners .entry))) (sheet (now (out .exit)) r) ≡
+        leftBy (actTurn (tables (now (states .entry)) (now (owners .entry))) (saidIn (now (octets .entry)) (request .fields))) (sheet (now (out .entry)) 0) ⌝ }
+{
+    let fields = request.fields;
+    let sender = fields[0];
+    let message = fields[1];
+    let room = fields[2];
+    let mut space = lines::blank_space();
+    let buffer = lines::front(&mut space, room.value as usize);
+    let acted = hub::act(
+        states,
+        owners,
+        sender.value,
+        lines::stretch(octets, message.from, message.count as usize),
+        buffer,
+    );
+    say_acted(acted, buffer, out)
+}
