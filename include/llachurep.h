@@ -7,8 +7,14 @@
  * The buffers of one call do not overlap one another. Nothing is kept after the call.
  *
  * What comes back. Answers are one number, 65536 * N + v. N is 0 where the call is accepted, and v is then said at each
- * function. Else N is the refusal's number, v is 0, and no lent octet has changed. (llachurep_number_read answers
- * 64 bits: its N stands above the low 32.)
+ * function. Else N is the refusal's number, v is the octet of the message that it is about, and no lent octet has changed.
+ * Only a reader's refusal from 3 to 8 is about an octet; v is 0 with every other number. Take the two apart by the macros
+ * below: an answer is not to be compared with 65536 * N. (llachurep_number_read answers 64 bits: its N stands above the
+ * low 32, and it has no place.)
+ *
+ * The octet that a reader's refusal is about, in llachurep_read, _compact, _find and _act: 3 the type octet; 4 the
+ * message's length; 5 the pointer; 6 the length octet; 7 the name octet of the parameter that failed, or the message's
+ * length where a name was due and the message ended; 8 the later start of the first two parts that share an octet.
  *
  * Where several refusals apply, the first in the order that stands at the function is given.
  */
@@ -18,8 +24,9 @@
 #include <stddef.h>
 #include <stdint.h>
 
-/* The refusal's number, 0 where the call is accepted; and the value of an accepted call. */
+/* The refusal's number, 0 where the call is accepted; the octet that a refusal is about; the value of an accepted call. */
 #define LLACHUREP_REFUSAL(answer) ((uint32_t)(answer) >> 16)
+#define LLACHUREP_PLACE(answer) ((uint32_t)(answer) & 65535u)
 #define LLACHUREP_VALUE(answer) ((uint32_t)(answer) & 65535u)
 
 /* The same for the 64 bits of llachurep_number_read, with the four fields of an accepted number. */

@@ -7,10 +7,14 @@
 #include "plain.h"
 #define CALL(name) plain_##name
 #define NUMBER_REFUSAL(answer) ((unsigned)((answer) >> 32))
+#define REFUSAL(answer) ((answer) >> 16)
+#define PLACE(answer) ((answer) & 65535u)
 #else
 #include "llachurep.h"
 #define CALL(name) llachurep_##name
 #define NUMBER_REFUSAL(answer) LLACHUREP_NUMBER_REFUSAL(answer)
+#define REFUSAL(answer) LLACHUREP_REFUSAL(answer)
+#define PLACE(answer) LLACHUREP_PLACE(answer)
 #endif
 
 enum { LINE = 8192, OCTETS = 1024, FIELDS = 8 };
@@ -85,10 +89,20 @@ static void hex(const uint8_t *octets, size_t count)
         printf("%02x", octets[i]);
 }
 
-static void octets(const char *word, uint32_t answer)
+/* A refusal, with the octet that a reader's number from 3 to 8 is about where the request shows one. */
+static void refused(uint32_t answer, int placed)
 {
-    if (answer >> 16) {
-        printf("refused %u\n", answer >> 16);
+    uint32_t number = REFUSAL(answer);
+    printf("refused %u", number);
+    if (placed && number >= 3 && number <= 8)
+        printf(" at %u", PLACE(answer));
+    printf("\n");
+}
+
+static void octets(const char *word, uint32_t answer, int placed)
+{
+    if (REFUSAL(answer)) {
+        refused(answer, placed);
         return;
     }
     printf("%s ", word);
@@ -124,8 +138,8 @@ static void answer(size_t length)
     } else if (is(length, "read", "o")) {
         uint16_t p[10];
         uint32_t got = CALL(read)(f[0].octets, f[0].count, p, 10);
-        if (got >> 16) {
-            printf("refused %u\n", got >> 16);
+        if (REFUSAL(got)) {
+            refused(got, 1);
             return;
         }
         printf("circuit %u type %02x fixed ", p[0], p[1]);
@@ -139,14 +153,14 @@ static void answer(size_t length)
         printf("\n");
     } else if (is(length, "write", "ntoooor")) {
         octets("octets", CALL(write)(f[0].number, f[1].number, f[2].octets, f[2].count, f[3].octets, f[3].count,
-                                     f[4].octets, f[4].count, f[5].octets, f[5].count, out, f[6].number));
+                                     f[4].octets, f[4].count, f[5].octets, f[5].count, out, f[6].number), 0);
     } else if (is(length, "compact", "or")) {
-        octets("octets", CALL(compact)(f[0].octets, f[0].count, out, f[1].number));
+        octets("octets", CALL(compact)(f[0].octets, f[0].count, out, f[1].number), 1);
     } else if (is(length, "find", "too")) {
         size_t s[2];
         uint32_t got = CALL(find)(f[1].octets, f[1].count, f[2].octets, f[2].count, f[0].number, s, 2);
-        if (got >> 16) {
-            printf("refused %u\n", got >> 16);
+        if (REFUSAL(got)) {
+            refused(got, 1);
             return;
         }
         printf(got ? "defaults " : "message ");
@@ -164,7 +178,7 @@ static void answer(size_t length)
         printf("\n");
     } else if (is(length, "dial", "nnnor")) {
         octets("octets", CALL(number_write)(f[0].number, f[1].number, f[2].number, f[3].octets, f[3].count, out,
-                                            f[4].number));
+                                            f[4].number), 0);
     } else if (is(length, "own", "ccs") && f[0].number <= f[1].number) {
         memset(owners + f[0].number, (int)f[2].number, f[1].number - f[0].number + 1);
         printf("ok\n");
@@ -172,7 +186,8 @@ static void answer(size_t length)
         memset(states + f[0].number, (int)f[2].number, f[1].number - f[0].number + 1);
         printf("ok\n");
     } else if (is(length, "act", "nor")) {
-        octets("answer", CALL(act)(states, 4096, owners, 4096, f[0].number, f[1].octets, f[1].count, out, f[2].number));
+        octets("answer", CALL(act)(states, 4096, owners, 4096, f[0].number, f[1].octets, f[1].count, out, f[2].number),
+               1);
     } else if (is(length, "rows", "cc") && f[0].number <= f[1].number) {
         printf("rows ");
         hex(states + f[0].number, f[1].number - f[0].number + 1);

@@ -30,9 +30,16 @@ static const struct shape shapes[256] = {
     [CQR] = {1, 0, 2, 0},
 };
 
+/* A refusal's number above, the octet that it is about below. */
+static uint32_t placed(unsigned number, unsigned place)
+{
+    return (uint32_t)number << 16 | place;
+}
+
+/* A number that is about no octet. */
 static uint32_t refusal(unsigned number)
 {
-    return (uint32_t)number << 16;
+    return placed(number, 0);
 }
 
 /* ------------------------------------------------------------------------------------------------ the reader */
@@ -46,38 +53,45 @@ struct message {
     struct stretch fixed, variable[2], optional;
 };
 
-/* The variable parameter that the pointer at `place` points at: 5, then 6. */
-static unsigned parse_variable(const uint8_t *octets, unsigned l, unsigned end, unsigned place, struct stretch *x)
+/* The later of two starts. */
+static unsigned later(unsigned a, unsigned b)
+{
+    return a < b ? b : a;
+}
+
+/* The variable parameter that the pointer at `place` points at: 5 about the pointer, then 6 about the length octet. */
+static uint32_t parse_variable(const uint8_t *octets, unsigned l, unsigned end, unsigned place, struct stretch *x)
 {
     unsigned target = place + octets[place];
     if (target < end || target >= l) /* a pointer of 0 points at itself, before the end */
-        return 5;
+        return placed(5, place);
     unsigned size = octets[target];
     if (target + 1 + size > l)
-        return 6;
+        return placed(6, target);
     x->start = target + 1;
     x->length = size;
     return 0;
 }
 
-/* 1, 2, 3, 4; each variable pointer in turn 5 then 6; the optional pointer 5 then 7; then 8. 0 is accepted. */
-static unsigned parse(const uint8_t *octets, size_t length, struct message *x)
+/* 1, 2, 3, 4; each variable pointer in turn 5 then 6; the optional pointer 5 then 7; then 8; from 3 on with the octet.
+ * 0 is accepted. */
+static uint32_t parse(const uint8_t *octets, size_t length, struct message *x)
 {
     if (length < SHORTEST)
-        return 1;
+        return refusal(1);
     if (length > LONGEST)
-        return 2;
+        return refusal(2);
     unsigned l = (unsigned)length;
     struct shape row = shapes[octets[2]];
     if (!row.known)
-        return 3;
+        return placed(3, 2);
     unsigned pointers = 3u + row.fixed;
     unsigned end = pointers + row.variable + row.optional;
     if (end > l)
-        return 4;
+        return placed(4, l);
 
     struct stretch first = {0, 0}, second = {0, 0}, optional = {0, 0};
-    unsigned fault;
+    uint32_t fault;
     if (row.variable >= 1) {
         fault = parse_variable(octets, l, end, pointers, &first);
         if (fault)
@@ -91,24 +105,25 @@ static unsigned parse(const uint8_t *octets, size_t length, struct message *x)
     if (row.optional && octets[end - 1] != 0) {
         unsigned target = end - 1 + octets[end - 1];
         if (target >= l)
-            return 5;
+            return placed(5, end - 1);
         unsigned at = target;
         while (octets[at] != 0) {
             if (at + 1 >= l)
-                return 7;
-            at += 2u + octets[at + 1];
-            if (at >= l)
-                return 7;
+                return placed(7, at);
+            unsigned next = at + 2u + octets[at + 1];
+            if (next >= l) /* it passes the end, or a name is due at the end */
+                return placed(7, next > l ? at : l);
+            at = next;
         }
         optional.start = target;
         optional.length = at - target;
         /* A variable parameter begins at its length octet, an optional part ends with its closing 0. */
         if (row.variable >= 1 && target < first.start + first.length && first.start - 1 < at + 1)
-            return 8;
+            return placed(8, later(first.start - 1, target));
     }
     /* No type has two variable parameters and an optional part. */
     if (row.variable == 2 && first.start - 1 < second.start + second.length && second.start - 1 < first.start + first.length)
-        return 8;
+        return placed(8, later(first.start - 1, second.start - 1));
 
     x->circuit = octets[0] + 256u * (octets[1] & 15u);
     x->type = octets[2];
@@ -123,9 +138,9 @@ static unsigned parse(const uint8_t *octets, size_t length, struct message *x)
 uint32_t plain_read(const uint8_t *message, size_t length, uint16_t *parts, size_t count)
 {
     struct message x;
-    unsigned fault = parse(message, length, &x);
+    uint32_t fault = parse(message, length, &x);
     if (fault)
-        return refusal(fault);
+        return fault;
     if (count < 10)
         return refusal(13);
     parts[0] = (uint16_t)x.circuit;
@@ -172,9 +187,9 @@ uint32_t plain_find(const uint8_t *message, size_t length, const uint8_t *defaul
                     uint32_t name, size_t *stretch, size_t count)
 {
     struct message x;
-    unsigned fault = parse(message, length, &x);
+    uint32_t fault = parse(message, length, &x);
     if (fault)
-        return refusal(fault);
+        return fault;
     if (walk(defaults, defaults_length))
         return refusal(11);
     size_t start, size;
@@ -274,9 +289,9 @@ uint32_t plain_write(uint32_t circuit, uint32_t type, const uint8_t *fixed, size
 uint32_t plain_compact(const uint8_t *message, size_t length, uint8_t *out, size_t room)
 {
     struct message x;
-    unsigned fault = parse(message, length, &x);
+    uint32_t fault = parse(message, length, &x);
     if (fault)
-        return refusal(fault);
+        return fault;
     return compose(x.circuit, x.type, shapes[x.type], message + x.fixed.start, message + x.variable[0].start,
                    x.variable[0].length, message + x.variable[1].start, x.variable[1].length,
                    message + x.optional.start, x.optional.length, out, room);
@@ -344,9 +359,9 @@ uint32_t plain_act(uint8_t *states, size_t states_length, const uint8_t *owners,
     if (states_length != CIRCUITS || owners_length != CIRCUITS)
         return refusal(16);
     struct message x;
-    unsigned fault = parse(message, length, &x);
+    uint32_t fault = parse(message, length, &x);
     if (fault)
-        return refusal(fault);
+        return fault;
 
     const uint8_t *contents = message + x.variable[0].start;
     unsigned size = x.variable[0].length;

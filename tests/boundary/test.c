@@ -411,12 +411,14 @@ static void want_octets(const char *what, const char *input, size_t room, const 
         printf("  %s\n  does not leave %s\n", input, wanted);
 }
 
-#define REFUSED(n) ((uint32_t)(n) << 16)
+/* A refusal about that octet; one that is about none. */
+#define AT(n, place) ((uint32_t)(n) << 16 | (place))
+#define REFUSED(n) AT(n, 0)
 
 static void reads(const char *text, uint32_t wanted, const uint16_t *parts)
 {
     size_t length = hex(text, octets);
-    want("read", text, try_read(octets, length, 10), wanted ? REFUSED(wanted) : 10);
+    want("read", text, try_read(octets, length, 10), wanted ? wanted : 10);
     if (parts) {
         uint16_t got[10];
         checks++;
@@ -427,13 +429,13 @@ static void reads(const char *text, uint32_t wanted, const uint16_t *parts)
     /* With too little room: the reader's numbers, then 13. */
     for (size_t count = 0; count <= 12; count++)
         want("read, count", text, try_read(octets, length, count),
-             wanted ? REFUSED(wanted) : count < 10 ? REFUSED(13) : 10);
-    /* The functions over the reader give its numbers too. */
+             wanted ? wanted : count < 10 ? REFUSED(13) : 10);
+    /* The functions over the reader give its numbers and octets too. */
     if (wanted) {
-        want("compact", text, try_compact(octets, length, 268), REFUSED(wanted));
-        want("compact", text, try_compact(octets, length, 0), REFUSED(wanted));
-        want("find", text, try_find(octets, length, (const uint8_t *)"\x20", 1, 0x20, 0), REFUSED(wanted));
-        want("act", text, try_act(0, octets, length, 0), REFUSED(wanted));
+        want("compact", text, try_compact(octets, length, 268), wanted);
+        want("compact", text, try_compact(octets, length, 0), wanted);
+        want("find", text, try_find(octets, length, (const uint8_t *)"\x20", 1, 0x20, 0), wanted);
+        want("act", text, try_act(0, octets, length, 0), wanted);
     }
 }
 
@@ -441,57 +443,57 @@ static void reads(const char *text, uint32_t wanted, const uint16_t *parts)
 
 static void reader_cases(void)
 {
-    reads("", 1, 0);
-    reads("05", 1, 0);
-    reads("05 00", 1, 0);
+    reads("", REFUSED(1), 0);
+    reads("05", REFUSED(1), 0);
+    reads("05 00", REFUSED(1), 0);
     reads("23 01 13", 0, PARTS(291, 0x13));
     reads("23 f1 13", 0, PARTS(291, 0x13));
     reads("01 00 09 00*264", 0, PARTS(1, 9));                                   /* 267 octets */
     reads("01 00 09 00*265", 0, PARTS(1, 9));                                   /* 268 */
-    reads("01 00 09 00*266", 2, 0);                                             /* 269 */
-    reads("01 00 03 00*266", 2, 0);
-    reads("01 00 00", 3, 0);
-    reads("01 00 03 00*265", 3, 0);
-    reads("01 00 09", 4, 0);
-    reads("01 00 17", 4, 0);
-    reads("01 00 18 00", 4, 0);
-    reads("01 00 05", 4, 0);
-    reads("01 00 01 00 60 01 0A 00 02", 4, 0);
-    reads("01 00 2B 01", 4, 0);
+    reads("01 00 09 00*266", REFUSED(2), 0);                                    /* 269 */
+    reads("01 00 03 00*266", REFUSED(2), 0);
+    reads("01 00 00", AT(3, 2), 0);
+    reads("01 00 03 00*265", AT(3, 2), 0);
+    reads("01 00 09", AT(4, 3), 0);
+    reads("01 00 17", AT(4, 3), 0);
+    reads("01 00 18 00", AT(4, 4), 0);
+    reads("01 00 05", AT(4, 3), 0);
+    reads("01 00 01 00 60 01 0A 00 02", AT(4, 9), 0);
+    reads("01 00 2B 01", AT(4, 4), 0);
     reads("05 00 17 01 01 03", 0, PARTS(5, 0x17, 0, 0, 5, 1));
-    reads("05 00 17 00 01 03", 5, 0);
+    reads("05 00 17 00 01 03", AT(5, 3), 0);
     reads("05 00 17 02 01 00", 0, PARTS(5, 0x17, 0, 0, 6, 0));                  /* there, but empty */
-    reads("05 00 17 03 01 03", 5, 0);
-    reads("05 00 17 01 02 03", 6, 0);
-    reads("01 00 0C 01 00", 5, 0);
+    reads("05 00 17 03 01 03", AT(5, 3), 0);
+    reads("05 00 17 01 02 03", AT(6, 4), 0);
+    reads("01 00 0C 01 00", AT(5, 3), 0);
     reads("01 00 0C 02 00 02 80 90", 0, PARTS(1, 0x0C, 0, 0, 6, 2));
-    reads("01 00 0C 02 00 03 80 90", 6, 0);
-    reads("01 00 0C 02 01 01 00 00", 8, 0);
+    reads("01 00 0C 02 00 03 80 90", AT(6, 5), 0);
+    reads("01 00 0C 02 01 01 00 00", AT(8, 5), 0);
     reads("01 00 0C 02 02 00 00", 0, PARTS(1, 0x0C, 0, 0, 6, 0, 0, 0, 6, 0));   /* only its closing 0 */
     reads("01 00 0C 03 01 00 00", 0, PARTS(1, 0x0C, 0, 0, 7, 0, 0, 0, 5, 0));   /* the other way round, touching */
-    reads("01 00 09 01", 5, 0);
+    reads("01 00 09 01", AT(5, 3), 0);
     reads("01 00 09 01 00", 0, PARTS(1, 9, 0, 0, 0, 0, 0, 0, 4, 0));
-    reads("01 00 09 02 00", 5, 0);
+    reads("01 00 09 02 00", AT(5, 3), 0);
     reads("01 00 09 01 20 01 41 00", 0, PARTS(1, 9, 0, 0, 0, 0, 0, 0, 4, 3));
-    reads("01 00 09 01 20 01 41", 7, 0);
-    reads("01 00 09 01 20", 7, 0);
-    reads("01 00 09 01 20 03 41 00", 7, 0);
-    reads("01 00 09 01 20 ff 41 00", 7, 0);
+    reads("01 00 09 01 20 01 41", AT(7, 7), 0);
+    reads("01 00 09 01 20", AT(7, 4), 0);
+    reads("01 00 09 01 20 03 41 00", AT(7, 4), 0);
+    reads("01 00 09 01 20 ff 41 00", AT(7, 4), 0);
     reads("01 00 2B 02 03 01 55 02 66 77", 0, PARTS(1, 0x2B, 0, 0, 6, 1, 8, 2));
-    reads("01 00 2B 02 01 01 55 02 66 77", 8, 0);
+    reads("01 00 2B 02 01 01 55 02 66 77", AT(8, 5), 0);
     reads("01 00 2B 04 01 01 55 01 66", 0, PARTS(1, 0x2B, 0, 0, 8, 1, 6, 1));
-    reads("01 00 2B 02 02 02 01 66 77", 8, 0);
-    reads("01 00 2B 01 02 02 01 66 77", 5, 0);
-    reads("01 00 2B 02 00 01 55 01 66", 5, 0);
-    reads("01 00 2B 02 09 04 55 01 66", 6, 0);
-    reads("01 00 2B 02 03 01 55 03 66 77", 6, 0);
+    reads("01 00 2B 02 02 02 01 66 77", AT(8, 6), 0);
+    reads("01 00 2B 01 02 02 01 66 77", AT(5, 3), 0);
+    reads("01 00 2B 02 00 01 55 01 66", AT(5, 4), 0);
+    reads("01 00 2B 02 09 04 55 01 66", AT(6, 5), 0);
+    reads("01 00 2B 02 03 01 55 03 66 77", AT(6, 7), 0);
     reads("01 00 05 07", 0, PARTS(1, 5, 3, 1));
     reads("01 00 06 07 08 00", 0, PARTS(1, 6, 3, 2));
     reads("01 00 01 00 60 01 0A 00 02 00 04 03 10 21 43", 0, PARTS(1, 1, 3, 5, 11, 4));
     reads("ff ff 0C 02 00 ff 11*255", 0, PARTS(4095, 0x0C, 0, 0, 6, 255));
     reads("ff ff 0C 02 ff fd 11*253 00*9", 0, PARTS(4095, 0x0C, 0, 0, 6, 253, 0, 0, 259, 0));  /* 268, pointer 255 */
-    reads("ff ff 0C 02 ff ff 11*253 00*9", 8, 0);
-    reads("ff ff 0C 02 00 ff 11*254", 6, 0);
+    reads("ff ff 0C 02 ff ff 11*253 00*9", AT(8, 259), 0);
+    reads("ff ff 0C 02 00 ff 11*254", AT(6, 5), 0);
 }
 
 static void writes(const struct given *w, uint32_t wanted, uint32_t size)
@@ -590,8 +592,8 @@ static void compacts(const char *text, uint32_t wanted, const char *compact)
     static uint8_t other[600];
     size_t length = hex(text, octets);
     if (wanted) {
-        want("compact", text, try_compact(octets, length, 268), REFUSED(wanted));
-        want("compact", text, try_compact(octets, length, 0), REFUSED(wanted));
+        want("compact", text, try_compact(octets, length, 268), wanted);
+        want("compact", text, try_compact(octets, length, 0), wanted);
         return;
     }
     uint32_t size = (uint32_t)hex(compact, other);
@@ -609,9 +611,9 @@ static void compact_cases(void)
     compacts("01 00 0C 03 01 00 01 77", 0, "01 00 0c 02 00 01 77");
     compacts("01 00 2B 05 01 02 66 77 01 55", 0, "01 00 2b 02 03 01 55 02 66 77");
     compacts("23 f1 13 aa bb", 0, "23 01 13");
-    compacts("01 00 0C 02 00 03 80 90", 6, 0);
+    compacts("01 00 0C 02 00 03 80 90", AT(6, 5), 0);
     /* Optional part first, then 254 octets: the compact form would need a pointer of 256. */
-    compacts("01 00 0C 05 01 20 00 00 fe 11*254", 12, 0);
+    compacts("01 00 0C 05 01 20 00 00 fe 11*254", REFUSED(12), 0);
     compacts("01 00 0C 04 01 00 00 fe 11*254", 0, "01 00 0c 02 00 fe 11*254");
 }
 
@@ -650,7 +652,7 @@ static void find_cases(void)
     finds("01 00 09 01 20 01 41 00", "20 02 41", 0x20, REFUSED(11), 0, 0);
     finds("01 00 09 01 20 01 41 00", "20 01 41 00", 0x20, REFUSED(11), 0, 0);
     finds("01 00 09 01 20 01 41 00", "00 01", 0, REFUSED(11), 0, 0);
-    finds("01 00 09 01 20 01 41", "20", 0x20, REFUSED(7), 0, 0);
+    finds("01 00 09 01 20 01 41", "20", 0x20, AT(7, 7), 0, 0);
     finds("23 01 13", "21 ff 05*255 20 ff 06*255", 0x20, 100, 259, 255);
 }
 

@@ -1028,7 +1028,7 @@ def coverage(data):
         word = line.split(b" ")[0]
         kind = word.decode() if word in model.FIELDS else "other"
         if answer.startswith("refused "):
-            counts[kind, int(answer[8:])] += 1
+            counts[kind, int(answer.split()[1])] += 1
         else:
             counts[kind, "bad line" if answer == "bad line" else "accepted"] += 1
     return counts

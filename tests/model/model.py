@@ -1,7 +1,7 @@
 """A model of the desk program, written from the paper's rules.
 
-Each function below answers with a value, or with the number of the refusal (an int).
-The checks of a function stand in the paper's order.
+Each function below answers with a value, or with the number of the refusal (an int); the reader's numbers from 3 to 8
+come with the octet that they are about (a Placed). The checks of a function stand in the paper's order.
 
 As a program, it answers standard input on standard output, as the desk does.
 """
@@ -13,9 +13,23 @@ CIRCUITS = 4096
 SHORTEST, LONGEST = 3, 268
 
 
+class Placed(int):
+    """A refusal's number with the octet that it is about."""
+
+    def __new__(cls, number, place):
+        placed = super().__new__(cls, number)
+        placed.place = place
+        return placed
+
+
 def refused(answer):
-    """A refusal is its number alone."""
+    """A refusal is its number, with or without a place."""
     return isinstance(answer, int)
+
+
+def refusal(answer):
+    """A refusal as the desk says it."""
+    return "refused %d at %d" % (answer, answer.place) if isinstance(answer, Placed) else "refused %d" % answer
 
 
 # ---------------------------------------------------------------- the shapes of the types
@@ -62,14 +76,16 @@ class Message(NamedTuple):
 
 
 def closing(message, at):
-    """Where the 0 stands that closes the run beginning at `at`; None where there is none before L."""
-    while at < len(message):
+    """Where the 0 stands that closes the run beginning at `at`; else 7, about the name octet of the parameter that failed,
+    or about L where a name was due and the message ended."""
+    length = len(message)
+    while at < length:
         if message[at] == 0:
-            return at
-        if at + 1 == len(message):
-            return None
+            return True, at
+        if at + 2 > length or at + 2 + message[at + 1] > length:
+            return False, Placed(7, at)
         at = at + 2 + message[at + 1]
-    return None
+    return False, Placed(7, length)
 
 
 def share(one, other):
@@ -86,11 +102,11 @@ def read(message):
         return 2
     row = shape(message[2])
     if refused(row):
-        return row
+        return Placed(row, 2)           # about the type octet
     pointers = 3 + row.fixed
     end = pointers + row.variable + (1 if row.optional else 0)
     if end > length:
-        return 4
+        return Placed(4, length)        # about L
 
     parts = []
     contents = []
@@ -98,10 +114,10 @@ def read(message):
         # A pointer at octet p with value v points at p+v; a variable pointer may not be 0.
         target = place + message[place]
         if message[place] == 0 or target < end or target >= length:
-            return 5
+            return Placed(5, place)     # about the pointer's octet
         past = target + 1 + message[target]
         if past > length:
-            return 6
+            return Placed(6, target)    # about the length octet
         parts.append((target, past))
         contents.append(message[target + 1:past])
 
@@ -109,18 +125,18 @@ def read(message):
     if row.optional and message[end - 1] != 0:
         target = end - 1 + message[end - 1]
         if target < end or target >= length:
-            return 5
-        zero = closing(message, target)
-        if zero is None:
-            return 7
+            return Placed(5, end - 1)
+        closed, zero = closing(message, target)
+        if not closed:
+            return zero
         parts.append((target, zero + 1))
         run = message[target:zero]
 
-    # The parts share no octet with one another.
+    # The parts share no octet with one another: the pairs by first member, then second, parts in pointer order.
     for i in range(len(parts)):
-        for j in range(i):
+        for j in range(i + 1, len(parts)):
             if share(parts[i], parts[j]):
-                return 8
+                return Placed(8, max(parts[i][0], parts[j][0]))     # about the later start
 
     # The high half of octet 1 is spare: ignored in reading.
     circuit = message[0] + 256 * (message[1] % 16)
@@ -453,7 +469,7 @@ class Desk:
         except BadLine:
             return b"bad line"
         answer = getattr(self, "on_" + word)(*values)
-        return ("refused %d" % answer if refused(answer) else answer).encode()
+        return (refusal(answer) if refused(answer) else answer).encode()
 
     def on_shape(self, kind):
         row = shape(kind)

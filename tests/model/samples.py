@@ -53,16 +53,35 @@ SAMPLES = [
     ("read 0100090120014100", "circuit 1 type 09 fixed - first - second - optional 200141"),
     ("find 20 0100090120014100 -", "message 41"),
     ("find 21 0100090120014100 -", "refused 15"),
-    ("read 01000901200141", "refused 7"),
+    ("read 01000901200141", "refused 7 at 7"),
 
-    # 6, 5, 8, 5.
-    ("read 01000C0200038090", "refused 6"),
-    ("read 01000C0100", "refused 5"),
-    ("read 01000C0201010000", "refused 8"),
-    ("read 01000901", "refused 5"),
-    ("act 1 01000C0200038090 1024", "refused 6"),
-    ("act 1 01000C0100 1024", "refused 5"),
-    ("act 1 01000C0201010000 1024", "refused 8"),
+    # 6, 5, 8, 5, each with its octet: the length octet, the pointer, the later start of the two, the pointer.
+    ("read 01000C0200038090", "refused 6 at 5"),
+    ("read 01000C0100", "refused 5 at 3"),
+    ("read 01000C0201010000", "refused 8 at 5"),
+    ("read 01000901", "refused 5 at 3"),
+    ("act 1 01000C0200038090 1024", "refused 6 at 5"),
+    ("act 1 01000C0100 1024", "refused 5 at 3"),
+    ("act 1 01000C0201010000 1024", "refused 8 at 5"),
+
+    # The octet, number by number: the type's; L; a name octet that is the last; a parameter that passes; L where a name was due.
+    ("read 010003", "refused 3 at 2"),
+    ("read 010003010203", "refused 3 at 2"),
+    ("read 01000C02", "refused 4 at 4"),
+    ("read 0100090120", "refused 7 at 4"),
+    ("read 010009012001", "refused 7 at 4"),
+    ("read 0100090120014121", "refused 7 at 7"),
+    ("read 010009012001412102", "refused 7 at 7"),
+    ("read 01002B02010100", "refused 8 at 5"),
+    ("read 01002B03010100", "refused 8 at 6"),
+    # Finding, writing again and the hub give the reader's octet; the writer's own 3, and every other number, have none.
+    ("find 20 01000901200141 -", "refused 7 at 7"),
+    ("find 20 01000901200141 00", "refused 7 at 7"),
+    ("compact 01000901200141 0", "refused 7 at 7"),
+    ("act 0 010003 0", "refused 3 at 2"),
+    ("write 1 03 - - - - 1024", "refused 3"),
+    ("shape 03", "refused 3"),
+    ("compact 0100 1024", "refused 1"),
 
     # E0 0F 17 01 01 1F: circuits 4064 to 4095.
     ("set 4063 4095 2", "ok"),

@@ -35,10 +35,10 @@ use Rattle.requests.specs.Kinds.{FieldSays}
 use Rattle.requests.specs.Rows.{SHAPE, READ, WRITE, COMPACT, NUMBER, OWN, SET, ACT}
 use Rattle.requests.specs.Words.{Asked, asks, nothing, askedOf, numberAt, octetAt, octetsAt}
 use Rattle.requests.proofs.Sound.{Short, short}
-use Rattle.lines.specs.Lines.{counted, shown, refusal, writtenLine, octetsLine, blank, lent}
+use Rattle.lines.specs.Lines.{counted, shown, refusal, faultLine, writtenLine, octetsLine, blank, lent}
 use Rattle.lines.proofs.Pouring.{poured-front}
 use Rattle.read_lines.specs.Read.{optionalWord, shapeLine, partsLine, readLine}
-use Rattle.codec_lines.specs.Codec.{foundLine, codecLine}
+use Rattle.codec_lines.specs.Codec.{againLine, compactLine, foundLine, codecLine}
 use Rattle.number_lines.specs.Numbers.{signalsLine, numberLine, numbersLine}
 use Rattle.table_lines.specs.Tables.{Turn, turn, Left, left, leftBy, spread, rowsLine, tableTurn, replyLine, actsOf, actTurn}
 use Rattle.answers.specs.Turns.{badTurn, turnBy, turnFor, turnOf, turnIn, withLineEnd}
@@ -70,6 +70,15 @@ hex-length xs = go (eqb (length xs) 0)
 
 counted-length : (w : String) (n : ℕ) → length (counted w n) ≤ length (said w) + 10
 counted-length w n = omega (arith, length-append (said w) (decimalOf n), decimal-length 10 n)
+
+fault-length : (n at : ℕ) → length (faultLine n at) ≤ 50
+unfolding faultLine
+fault-length n at = go (ltb n 3) (ltb 8 n)
+  where
+    go : (s t : Bool) → length (if s then refusal n else if t then refusal n else refusal n ++ counted " at " at) ≤ 50
+    go true t = omega (arith, counted-length "refused " n)
+    go false true = omega (arith, counted-length "refused " n)
+    go false false = omega (arith, length-append (refusal n) (counted " at " at), counted-length "refused " n, counted-length " at " at)
 
 shown-length : (w : String) (xs : List ℕ) (most : ℕ) → length xs ≤ most → length (shown w xs) ≤ length (said w) + 2 * most + 1
 shown-length w xs most h = omega (arith, length-append (said w) (hexOf xs), hex-length xs)
@@ -111,17 +120,22 @@ module _ (most : ℕ) (m : List ℕ) (h : length m ≤ most) where
       let a = counted "circuit " (x .circuit) in
       let b = shown " type " (x .kind ∷ []) in
       omega (arith, length-append (a ++ b) (partsLine m (x .parts)), length-append a b, counted-length "circuit " (x .circuit), shown-length " type " (x .kind ∷ []) 1 (omega arith), parts-fit (x .parts))
-  read-fits (refused n at) = omega (arith, counted-length "refused " n)
+  read-fits (refused n at) = omega (arith, fault-length n at)
 
   written-fits : (x : Answer ℕ) → length (writtenLine x m) ≤ 2 * most + 100
   unfolding writtenLine
   written-fits (accepted n) = omega (arith, shown-length "octets " (take n m) most (front-length m n most h))
   written-fits (refused n at) = omega (arith, counted-length "refused " n)
 
+  again-fits : (x : Answer ℕ) → length (againLine x m) ≤ 2 * most + 100
+  unfolding againLine
+  again-fits (accepted n) = omega (arith, shown-length "octets " (take n m) most (front-length m n most h))
+  again-fits (refused n at) = omega (arith, fault-length n at)
+
   reply-fits : (x : Answer ℕ) → length (replyLine x m) ≤ 2 * most + 100
   unfolding replyLine
   reply-fits (accepted n) = omega (arith, shown-length "answer " (take n m) most (front-length m n most h))
-  reply-fits (refused n at) = omega (arith, counted-length "refused " n)
+  reply-fits (refused n at) = omega (arith, fault-length n at)
 
   signals-fit : (x : Answer Number) → length (signalsLine x m) ≤ 2 * most + 200
   unfolding signalsLine
@@ -143,7 +157,7 @@ module _ (most : ℕ) (m : List ℕ) (h : length m ≤ most) where
       go : (t : Bool) → length (if t then shown "defaults " (octets d (s .start) (s .len)) else shown "message " (octets m (s .start) (s .len))) ≤ 2 * most + 100
       go true = omega (arith, shown-length "defaults " (octets d (s .start) (s .len)) most (octets-length d (s .start) (s .len) most k))
       go false = omega (arith, shown-length "message " (octets m (s .start) (s .len)) most (octets-length m (s .start) (s .len) most h))
-  found-fits d k (refused n at) = omega (arith, counted-length "refused " n)
+  found-fits d k (refused n at) = omega (arith, fault-length n at)
 
 -- a lent buffer keeps its length
 done-length : {A : Type 0} (buffer : List ℕ) (x : Answer (A × List ℕ)) → length (done buffer (x then roomFor buffer) .left) ≡ length buffer
@@ -171,7 +185,7 @@ module _ (which : ℕ) (gs : List FieldSays) (h : ShortAll gs) where
       go : (a b c d : Bool) → length (if a then shapeLine (shapeOf (octetAt gs 0))
           else if b then readLine (octetsAt gs 0) (readOf (octetsAt gs 0))
           else if c then octetsLine (writeOf (numberAt gs 0) (numberAt gs 1) (octetsAt gs 2) (octetsAt gs 3) (octetsAt gs 4) (octetsAt gs 5) (lent (numberAt gs 6)))
-          else if d then octetsLine (compactOf (octetsAt gs 0) (lent (numberAt gs 1)))
+          else if d then compactLine (compactOf (octetsAt gs 0) (lent (numberAt gs 1)))
           else foundLine (octetsAt gs 1) (octetsAt gs 2) (locateOf (octetsAt gs 1) (octetsAt gs 2) (numberAt gs 0))) ≤ 40000
       go true b c d = omega (arith, shape-fits (shapeOf (octetAt gs 0)))
       go false true c d = omega (arith, read-fits 1024 (octetsAt gs 0) (h 0) (readOf (octetsAt gs 0)))
@@ -180,7 +194,7 @@ module _ (which : ℕ) (gs : List FieldSays) (h : ShortAll gs) where
           omega (arith, written-fits 1024 (x .left) (omega (arith, lent-length (numberAt gs 6), done-length (lent (numberAt gs 6)) (writeIn (numberAt gs 0) (numberAt gs 1) (octetsAt gs 2) (octetsAt gs 3) (octetsAt gs 4) (octetsAt gs 5)))) (x .answer))
       go false false false true =
           let x = compactOf (octetsAt gs 0) (lent (numberAt gs 1)) in
-          omega (arith, written-fits 1024 (x .left) (omega (arith, lent-length (numberAt gs 1), done-length (lent (numberAt gs 1)) (compactIn (octetsAt gs 0)))) (x .answer))
+          omega (arith, again-fits 1024 (x .left) (omega (arith, lent-length (numberAt gs 1), done-length (lent (numberAt gs 1)) (compactIn (octetsAt gs 0)))) (x .answer))
       go false false false false = omega (arith, found-fits 1024 (octetsAt gs 1) (h 1) (octetsAt gs 2) (h 2) (locateOf (octetsAt gs 1) (octetsAt gs 2) (numberAt gs 0)))
 
   -- those for numbers

@@ -4,20 +4,20 @@ use mathlib.Core.Path.{_≡_, sym, _∙_, ap}
 use mathlib.Core.List.{List}
 use Rattle.octets.specs.Answer.{accepted, refused, _then_}
 use Rattle.isup.specs.declared.Message.{Message}
-use Rattle.isup.specs.declared.Scanned.{Scanned}
-use Rattle.isup.specs.declared.Scanned.the-variants.{Whole, Faulty}
+use Rattle.isup.specs.declared.Reading.{Reading}
+use Rattle.isup.specs.declared.Reading.the-variants.{Read, Refused}
 use Rattle.isup.specs.Read.{readOf}
-use Rattle.isup.specs.Told.{scanTold}
+use Rattle.isup.specs.Told.{readingTold}
 use Rattle.asks.specs.Asks.{askedIn, askOf}
 
-module _ (m : List ℕ) (y : Scanned) (e : scanTold y ≡ readOf m) where
-  pub scan-faulty : (n at : ℕ) → y ≡ Faulty n at → refused n at ≡ askOf m
+module _ (m : List ℕ) (y : Reading) (e : readingTold y ≡ readOf m) where
+  pub read-refused : (n at : ℕ) → y ≡ Refused n at → refused n at ≡ askOf m
   unfolding askOf
-  scan-faulty n at f = ap (λ z. z then askedIn m) (sym (ap scanTold f) ∙ e)
+  read-refused n at f = ap (λ z. z then askedIn m) (sym (ap readingTold f) ∙ e)
 
-  pub scan-whole : (x : Message) → y ≡ Whole x → readOf m ≡ accepted x
-  scan-whole x f = sym e ∙ ap scanTold f
+  pub read-message : (x : Message) → y ≡ Read x → readOf m ≡ accepted x
+  read-message x f = sym e ∙ ap readingTold f
 
-  pub scan-asked : (x : Message) → y ≡ Whole x → askedIn m x ≡ askOf m
+  pub read-asked : (x : Message) → y ≡ Read x → askedIn m x ≡ askOf m
   unfolding askOf
-  scan-asked x f = ap (λ z. z then askedIn m) (sym (ap scanTold f) ∙ e)
+  read-asked x f = ap (λ z. z then askedIn m) (sym (ap readingTold f) ∙ e)

@@ -2,5 +2,6 @@ pub mod Types
 pub mod Reading
 pub mod Given
 pub mod Judged
+pub mod Places
 pub mod Determined
 pub mod Refutations

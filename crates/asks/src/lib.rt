@@ -15,7 +15,7 @@ use isup::IAM;
 use isup::LAST_CIRCUIT;
 use isup::REL;
 use isup::RSC;
-use isup::Scanned;
+use isup::Reading;
 use isup::UBL;
 use layout::Span;
 use rows::Act;
@@ -135,9 +135,9 @@ fn ask_in(message: &[u8], kind: u8, circuit: usize, at: usize, contents: Span) -
 pub fn decode(message: &[u8]) -> Verdict
     ensures { λ r. ⌜ verdictTold r ≡ askOf (now (message .entry)) ⌝ }
 {
-    match isup::scan(message) {
-        Scanned::Faulty(n, at) => Verdict::Refused(n, at),
-        Scanned::Whole(x) => {
+    match isup::read(message) {
+        Reading::Refused(n, at) => Verdict::Refused(n, at),
+        Reading::Read(x) => {
             let parts = x.parts;
             let fixed = parts.fixed;
             ask_in(message, x.kind, x.circuit as usize, fixed.from, parts.first)

@@ -1,5 +1,8 @@
 // What the desk answers to the codec's requests: shape, read, write, compact, find.
 ghost use mathlib.Core.Path.{_≡_};
+ghost use Prim.Native.Nat.{ℕ, _≤_};
+ghost use Rattle.octets.specs.Answer.{refused};
+ghost use Rattle.octets.specs.Told.{writtenTold};
 ghost use Rattle.finding.specs.Find.{locateOf};
 ghost use Rattle.isup.specs.Write.{writeOf, compactOf};
 ghost use Rattle.finding.specs.Told.{locatedTold};
@@ -7,8 +10,9 @@ ghost use Rattle.printing.specs.Sheet.{sheet, pour};
 ghost use Rattle.requests.specs.Words.{numberAt, octetsAt};
 ghost use Rattle.requests.specs.Along.{saidIn};
 ghost use Rattle.lines.specs.Lines.{octetsLine, lent};
-ghost use Rattle.codec_lines.specs.Codec.{foundLine, codecLine};
+ghost use Rattle.codec_lines.specs.Codec.{againLine, compactLine, foundLine, codecLine};
 use finding::Located;
+use octets::Written;
 use requests::COMPACT;
 use requests::Field;
 use requests::READ;
@@ -45,10 +49,21 @@ fn say_write(fields: [Field; 8], octets: &[u8], out: &mut [u8]) -> usize
     lines::say_written(written, buffer, out)
 }
 
+// What was written again to the front of a buffer, or the reader's refusal with its octet.
+fn say_again(written: Written, buffer: &[u8], out: &mut [u8]) -> usize
+    requires { ⌜ ((n at : ℕ) → writtenTold written ≡ refused n at → at ≤ 65535) ⌝ }
+    ensures { λ r. ⌜ sheet (now (out .exit)) r ≡ pour (sheet (now (out .entry)) 0) (againLine (writtenTold written) (now (buffer .entry))) ⌝ }
+{
+    match written {
+        Written::Octets(n) => { lines::put_shown(b"octets ", lines::stretch(buffer, 0, n), out, 0) }
+        Written::Refused(n, at) => lines::say_fault(n, at as u32, out),
+    }
+}
+
 // Writes a message again, and says what was written.
 fn say_compact(fields: [Field; 8], octets: &[u8], out: &mut [u8]) -> usize
     ensures { λ r. ⌜ sheet (now (out .exit)) r ≡ pour (sheet (now (out .entry)) 0)
-        (octetsLine (compactOf (octetsAt (saidIn (now (octets .entry)) fields) 0) (lent (numberAt (saidIn (now (octets .entry)) fields) 1)))) ⌝ }
+        (compactLine (compactOf (octetsAt (saidIn (now (octets .entry)) fields) 0) (lent (numberAt (saidIn (now (octets .entry)) fields) 1)))) ⌝ }
 {
     let message = fields[0];
     let room = fields[1];
@@ -58,11 +73,12 @@ fn say_compact(fields: [Field; 8], octets: &[u8], out: &mut [u8]) -> usize
         lines::stretch(octets, message.from, message.count as usize),
         buffer,
     );
-    lines::say_written(written, buffer, out)
+    say_again(written, buffer, out)
 }
 
-// Says where a parameter was found, with its contents.
+// Says where a parameter was found, with its contents; or the refusal with the reader's octet.
 fn say_located(located: Located, message: &[u8], defaults: &[u8], out: &mut [u8]) -> usize
+    requires { ⌜ ((n at : ℕ) → locatedTold located ≡ refused n at → at ≤ 65535) ⌝ }
     ensures { λ r. ⌜ sheet (now (out .exit)) r ≡ pour (sheet (now (out .entry)) 0) (foundLine (now (message .entry)) (now (defaults .entry)) (locatedTold located)) ⌝ }
 {
     match located {
@@ -72,7 +88,7 @@ fn say_located(located: Located, message: &[u8], defaults: &[u8], out: &mut [u8]
         Located::Defaults(at, len) => {
             lines::put_shown(b"defaults ", lines::stretch(defaults, at, len), out, 0)
         }
-        Located::Refused(n, _) => lines::say_refusal(n, out),
+        Located::Refused(n, at) => lines::say_fault(n, at as u32, out),
     }
 }
 

@@ -9,6 +9,7 @@ use Rattle.octets.proofs.Answer.{accepted-same, refused-same, refused-accepted,
 use Rattle.octets.proofs.Stretch.{stretch-one}
 use Rattle.finding.specs.declared.Located.{Located}
 use Rattle.finding.specs.declared.Located.the-variants.{Message, Defaults, Refused as NotFound}
+use Rattle.finding.specs.declared.Code.{Code}
 use Rattle.finding.specs.Find.{Spot, spot, locateOf, stretchStart, stretchLength, codeOf, heldBy}
 use Rattle.finding.specs.Told.{locatedTold}
 
@@ -41,8 +42,8 @@ pub find-or-default-determined : (m d r s : RefT (List ℕ)) (name : ℕ)
     → (r .ptr ≡ s .ptr) × (r .now ≡ s .now)
 find-or-default-determined m d r s name = stretch-one
 
-pub find-or-default-code-determined : (m d : List ℕ) (name r s : ℕ) → r ≡ codeOf (locateOf m d name) → s ≡ codeOf (locateOf m d name) → r ≡ s
+pub find-or-default-code-determined : (m d : List ℕ) (name : ℕ) (r s : Code) → r ≡ codeOf (locateOf m d name) → s ≡ codeOf (locateOf m d name) → r ≡ s
 find-or-default-code-determined m d name r s = one-answer
 
-pub find-code-determined : (m : List ℕ) (name r s : ℕ) → r ≡ codeOf (locateOf m [] name) → s ≡ codeOf (locateOf m [] name) → r ≡ s
+pub find-code-determined : (m : List ℕ) (name : ℕ) (r s : Code) → r ≡ codeOf (locateOf m [] name) → s ≡ codeOf (locateOf m [] name) → r ≡ s
 find-code-determined m name r s = one-answer

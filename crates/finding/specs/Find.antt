@@ -10,6 +10,7 @@ use Rattle.runs.specs.declared.Found.{Found}
 use Rattle.runs.specs.declared.Found.the-variants.{At, Nowhere}
 use Rattle.runs.specs.Run.{isRun, namedFrom}
 use Rattle.isup.specs.Read.{readOf}
+use Rattle.finding.specs.declared.Code.{Code}
 
 -- where contents were found: the companion's answer, 0 for the message and 100 for the defaults, then their first octet there and how many octets they are
 pub record Spot : Type 0 where
@@ -59,10 +60,10 @@ abbrev pub stretchLength : Answer Spot → ℕ
 stretchLength (accepted s) = s .len
 stretchLength (refused n at) = 0
 
--- the companion's answer: 0 for the message, 100 for the defaults, or the refusal's number
-abbrev pub codeOf : Answer Spot → ℕ
-codeOf (accepted s) = s .holder
-codeOf (refused n at) = n
+-- the companion's answer: 0 for the message, 100 for the defaults, or the refusal's number with the octet that it is about
+abbrev pub codeOf : Answer Spot → Code
+codeOf (accepted s) = record { number = s .holder; place = 0 }
+codeOf (refused n at) = record { number = n; place = at }
 
 -- whichever held it
 abbrev pub heldBy : {A : Type 0} → Answer Spot → A → A → A

@@ -4,7 +4,7 @@ ghost use mathlib.Core.List.{[]};
 ghost use Rattle.octets.specs.Stretch.{Stretch};
 ghost use Rattle.finding.specs.Find.{namedIn, firstOf, soughtIn, locateOf, stretchStart, stretchLength, codeOf, heldBy};
 ghost use Rattle.finding.specs.Told.{locatedTold};
-use isup::Scanned;
+use isup::Reading;
 use layout::Span;
 use runs::Found;
 
@@ -13,6 +13,12 @@ pub enum Located {
     Message(usize, usize),
     Defaults(usize, usize),
     Refused(u8, usize),
+}
+
+// What a search answers by: 0 where the message holds the parameter, 100 where the defaults do, or the refusal's number; and the octet that a refusal is about, 0 where it is about none.
+pub struct Code {
+    pub number: u8,
+    pub place: usize,
 }
 
 // The first parameter of that name in a message's optional run.
@@ -30,9 +36,9 @@ fn named_in(message: &[u8], run: Span, name: u8) -> Found
 pub fn locate(message: &[u8], defaults: &[u8], name: u32) -> Located
     ensures { λ r. ⌜ locatedTold r ≡ locateOf (now (message .entry)) (now (defaults .entry)) name ⌝ }
 {
-    match isup::scan(message) {
-        Scanned::Faulty(n, at) => Located::Refused(n, at),
-        Scanned::Whole(x) => {
+    match isup::read(message) {
+        Reading::Refused(n, at) => Located::Refused(n, at),
+        Reading::Read(x) => {
             let parts = x.parts;
             locate_in(message, parts.optional, defaults, name)
         }
@@ -72,8 +78,8 @@ pub fn find(message: &[u8], name: u32) -> &[u8]
     find_or_default(message, &message[0..0], name)
 }
 
-// What `find` answers by: 0 where the message holds the parameter, or the refusal's number.
-pub fn find_code(message: &[u8], name: u32) -> u8
+// What `find` answers by: 0 where the message holds the parameter, or the refusal's number with its octet.
+pub fn find_code(message: &[u8], name: u32) -> Code
     ensures { λ r. ⌜ r ≡ codeOf (locateOf (now (message .entry)) [] name) ⌝ }
 {
     find_or_default_code(message, &message[0..0], name)
@@ -93,13 +99,22 @@ pub fn find_or_default<'a>(message: &'a [u8], defaults: &'a [u8], name: u32) -> 
     }
 }
 
-// What `find_or_default` answers by: 0 where the message holds the parameter, 100 where the defaults do, or the refusal's number.
-pub fn find_or_default_code(message: &[u8], defaults: &[u8], name: u32) -> u8
+// What `find_or_default` answers by: 0 where the message holds the parameter, 100 where the defaults do, or the refusal's number with its octet.
+pub fn find_or_default_code(message: &[u8], defaults: &[u8], name: u32) -> Code
     ensures { λ r. ⌜ r ≡ codeOf (locateOf (now (message .entry)) (now (defaults .entry)) name) ⌝ }
 {
     match locate(message, defaults, name) {
-        Located::Message(_, _) => 0,
-        Located::Defaults(_, _) => 100,
-        Located::Refused(n, _) => n,
+        Located::Message(_, _) => Code {
+            number: 0,
+            place: 0,
+        },
+        Located::Defaults(_, _) => Code {
+            number: 100,
+            place: 0,
+        },
+        Located::Refused(n, at) => Code {
+            number: n,
+            place: at,
+        },
     }
 }

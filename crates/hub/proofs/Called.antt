@@ -9,7 +9,7 @@ use borrow.Author.Tests.{ltb-true, ltb-false}
 use lib.Dec.{ltb}
 use lib.ListN.{length, length-append, length-drop}
 use Rattle.octets.specs.Octet.{octet}
-use Rattle.octets.specs.Answer.{Answer, accepted, refused, unplaced}
+use Rattle.octets.specs.Answer.{Answer, accepted, refused}
 use Rattle.octets.specs.Filled.{filled}
 use Rattle.octets.proofs.Answer.{refused-accepted, accepted-same}
 use Rattle.octets.proofs.Choice.{decided}
@@ -71,7 +71,7 @@ module _ (T : Tables) (sender : ℕ) (m buffer : List ℕ) where
   unfolding actOf
   call-accepted n e = go (grantOf T sender m (length buffer)) refl e
     where
-      go : (g : Answer Ask) → grantOf T sender m (length buffer) ≡ g → carriedOut T m buffer (unplaced g) .answer ≡ accepted n → Called n (carriedOut T m buffer (unplaced g))
+      go : (g : Answer Ask) → grantOf T sender m (length buffer) ≡ g → carriedOut T m buffer g .answer ≡ accepted n → Called n (carriedOut T m buffer g)
       go (accepted a) p h = record {
         ask = a;
         allowed = granted T sender m (length buffer) a p;
@@ -86,18 +86,18 @@ module _ (T : Tables) (sender : ℕ) (m buffer : List ℕ) where
   unfolding actOf
   act-keeps n at e = go (grantOf T sender m (length buffer)) e
     where
-      go : (g : Answer Ask) → carriedOut T m buffer (unplaced g) .answer ≡ refused n at → (carriedOut T m buffer (unplaced g) .states ≡ T .states) × (carriedOut T m buffer (unplaced g) .buffer ≡ buffer)
+      go : (g : Answer Ask) → carriedOut T m buffer g .answer ≡ refused n at → (carriedOut T m buffer g .states ≡ T .states) × (carriedOut T m buffer g .buffer ≡ buffer)
       go (accepted a) h = absurd (refused-accepted (sym h))
       go (refused k at) h = (refl, refl)
 
   -- an answer is one or the other
-  pub answer-or : ((n : ℕ) × (actOf T sender m buffer .answer ≡ accepted n)) ⊎ ((n : ℕ) × (actOf T sender m buffer .answer ≡ refused n 0))
+  pub answer-or : ((n : ℕ) × (actOf T sender m buffer .answer ≡ accepted n)) ⊎ ((n : ℕ) × (at : ℕ) × (actOf T sender m buffer .answer ≡ refused n at))
   unfolding actOf
   answer-or = go (grantOf T sender m (length buffer))
     where
-      go : (g : Answer Ask) → ((n : ℕ) × (carriedOut T m buffer (unplaced g) .answer ≡ accepted n)) ⊎ ((n : ℕ) × (carriedOut T m buffer (unplaced g) .answer ≡ refused n 0))
+      go : (g : Answer Ask) → ((n : ℕ) × (carriedOut T m buffer g .answer ≡ accepted n)) ⊎ ((n : ℕ) × (at : ℕ) × (carriedOut T m buffer g .answer ≡ refused n at))
       go (accepted a) = inl (length (replyOf m a), refl)
-      go (refused k at) = inr (k, refl)
+      go (refused k at) = inr (k, at, refl)
 
   -- what was granted is what the message asks
   pub asks-so : (a : Ask) → Allowed T sender m (length buffer) a → askOf m ≡ accepted a
@@ -111,7 +111,7 @@ module _ (T : Tables) (sender : ℕ) (m buffer : List ℕ) where
   states-length =
       ⊎-elim
       (λ e. let d = call-accepted (e .0) (e .1) in ap length (d .rows) ∙ length-rows m (d .ask) (T .states))
-      (λ e. ap length (act-keeps (e .0) 0 (e .1) .0))
+      (λ e. ap length (act-keeps (e .0) (e .1) (e .2) .0))
       answer-or
 
   pub buffer-length : length (actOf T sender m buffer .buffer) ≡ length buffer
@@ -120,7 +120,7 @@ module _ (T : Tables) (sender : ℕ) (m buffer : List ℕ) where
       (λ e.
       let d = call-accepted (e .0) (e .1) in
       ap length (d .front) ∙ (simp (length-append, length-drop) (omega (arith, d .allowed .fits))))
-      (λ e. ap length (act-keeps (e .0) 0 (e .1) .1))
+      (λ e. ap length (act-keeps (e .0) (e .1) (e .2) .1))
       answer-or
 
   -- a call changes no row that its message does not name
@@ -131,7 +131,7 @@ module _ (T : Tables) (sender : ℕ) (m buffer : List ℕ) where
       let d = call-accepted (e .0) (e .1) in
       ap (λ (l : List ℕ). octet l c) (d .rows)
       ∙ ⊎-elim (λ n. absurd (out (d .ask, asks-so (d .ask) (d .allowed), n))) (λ h. row-outside m (d .ask) (T .states) c h) (named-or (d .ask) c))
-      (λ e. ap (λ (l : List ℕ). octet l c) (act-keeps (e .0) 0 (e .1) .0))
+      (λ e. ap (λ (l : List ℕ). octet l c) (act-keeps (e .0) (e .1) (e .2) .0))
       answer-or
 
   -- an accepted call names the sender's circuits alone
@@ -147,7 +147,7 @@ module _ (T : Tables) (sender : ℕ) (m buffer : List ℕ) where
       let d = call-accepted (e .0) (e .1) in
       ap (λ (l : List ℕ). octet l c) (d .rows)
       ∙ ⊎-elim (λ n. absurd (out (names-mine (d .ask) (d .allowed) c n))) (λ h. row-outside m (d .ask) (T .states) c h) (named-or (d .ask) c))
-      (λ e. ap (λ (l : List ℕ). octet l c) (act-keeps (e .0) 0 (e .1) .0))
+      (λ e. ap (λ (l : List ℕ). octet l c) (act-keeps (e .0) (e .1) (e .2) .0))
       answer-or
 
   -- only a sender who is not 0 is ever accepted, and none above 255 where the owners are octets

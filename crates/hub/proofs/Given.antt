@@ -10,7 +10,7 @@ use lib.ListN.{length}
 use lib.Seq.{sets}
 use Rattle.octets.specs.Octet.{AllOctets}
 use Rattle.octets.specs.Choice.{if_then_else_}
-use Rattle.octets.specs.Answer.{accepted, refused, _then_, unplaced}
+use Rattle.octets.specs.Answer.{accepted, refused, _then_}
 use Rattle.octets.proofs.Answer.{refused-accepted, accepted-same, past-test, then-accepted}
 use Rattle.octets.proofs.Choice.{true-false}
 use Rattle.octets.proofs.Filled.{sets-filled}
@@ -83,9 +83,9 @@ granted T sender m room a e = go (sized T) refl e
 
 -- ---- a call
 module _ (T : Tables) (sender : ℕ) (m buffer : List ℕ) (v : Verdict) (w : verdictTold v ≡ grantOf T sender m (length buffer)) where
-  pub act-refused : (n at : ℕ) → v ≡ Refused n at → after (refused n 0) (T .states) buffer ≡ actOf T sender m buffer
+  pub act-refused : (n at : ℕ) → v ≡ Refused n at → after (refused n at) (T .states) buffer ≡ actOf T sender m buffer
   unfolding actOf
-  act-refused n at f = ap (λ z. carriedOut T m buffer (unplaced z)) (sym (ap verdictTold f) ∙ w)
+  act-refused n at f = ap (λ z. carriedOut T m buffer z) (sym (ap verdictTold f) ∙ w)
 
   module _ (a : Ask) (f : v ≡ Granted a) where
     pub act-allowed : Allowed T sender m (length buffer) a
@@ -103,7 +103,7 @@ module _ (T : Tables) (sender : ℕ) (m buffer : List ℕ) (v : Verdict) (w : ve
         (let e′ : n ≡ length (replyOf m a) = e ∙ sym (length-reply m a) in
         let q′ = q ∙ sets-filled (replyOf m a) buffer (act-allowed .fits) in
         λ i. after (accepted (e′ i)) (p i) (q′ i))
-        ∙ ap (λ z. carriedOut T m buffer (unplaced z)) (sym (ap verdictTold f) ∙ w)
+        ∙ ap (λ z. carriedOut T m buffer z) (sym (ap verdictTold f) ∙ w)
 
 -- ---- what is allowed, test by test
 module _ (T : Tables) (sender : ℕ) (m : List ℕ) (room : ℕ) (a : Ask) where

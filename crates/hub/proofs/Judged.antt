@@ -10,9 +10,9 @@ use lib.Dec.{ltb, eqb}
 use lib.ListN.{length}
 use Rattle.octets.specs.Octet.{octet}
 use Rattle.octets.specs.Choice.{if_then_else_}
-use Rattle.octets.specs.Answer.{Answer, accepted, refused, unplaced}
+use Rattle.octets.specs.Answer.{Answer, accepted, refused}
 use Rattle.octets.specs.Faults.{First, None, Judges, fault}
-use Rattle.octets.proofs.Answer.{refused-accepted, refused-same}
+use Rattle.octets.proofs.Answer.{refused-accepted, refused-as}
 use Rattle.octets.proofs.Choice.{true-false}
 use Rattle.octets.proofs.Faults.{judges-done, judges-there, judges-absent, judges-if, judges-then, judges-choice}
 use Rattle.isup.specs.declared.Message.{Message}
@@ -166,25 +166,22 @@ act-judges T sender m room =
         let w = asked-is m (r .0) a (r .2) in
         allowed-judges T sender m room (r .0) (read-exactly m (r .0) .0 (r .1)) a (w .act, w .acts, w .is)
 
--- the same of the answer itself, which gives the number alone
+-- the same of the answer itself
 module _ (T : Tables) (sender : ℕ) (m buffer : List ℕ) where
-  answered : (g : Answer Ask) (n : ℕ) → (carriedOut T m buffer (unplaced g) .answer ≡ refused n 0) ↔ ((at : ℕ) × (g ≡ refused n at))
-  answered (accepted a) n = (λ e. absurd (refused-accepted (sym e)), λ h. absurd (refused-accepted (sym (h .1))))
-  answered (refused k at) n = (
-    λ e. (at, ap (λ (j : ℕ). refused j at) (refused-same e .0)),
-    λ h. ap (λ (j : ℕ). refused j 0) (refused-same (h .1) .0),
-  )
+  pub answered : (g : Answer Ask) (n at : ℕ) → (carriedOut T m buffer g .answer ≡ refused n at) ↔ (g ≡ refused n at)
+  answered (accepted a) n at = (λ e. absurd (refused-accepted (sym e)), λ e. absurd (refused-accepted (sym e)))
+  answered (refused k q) n at = (λ e. refused-as e, λ e. refused-as e)
 
-  accepts : (g : Answer Ask) → ((n : ℕ) × (carriedOut T m buffer (unplaced g) .answer ≡ accepted n)) ↔ ((a : Ask) × (g ≡ accepted a))
+  accepts : (g : Answer Ask) → ((n : ℕ) × (carriedOut T m buffer g .answer ≡ accepted n)) ↔ ((a : Ask) × (g ≡ accepted a))
   accepts (accepted a) = (λ e. (a, refl), λ h. (length (replyOf m a), refl))
   accepts (refused k at) = (λ e. absurd (refused-accepted (e .1)), λ h. absurd (refused-accepted (h .1)))
 
-  pub act-refuses-exactly : (n : ℕ) → (actOf T sender m buffer .answer ≡ refused n 0) ↔ ((at : ℕ) × First (actFaults T sender m (length buffer)) n at)
+  pub act-refuses-exactly : (n at : ℕ) → (actOf T sender m buffer .answer ≡ refused n at) ↔ First (actFaults T sender m (length buffer)) n at
   unfolding actOf
-  act-refuses-exactly n =
-      let j = act-judges T sender m (length buffer) in
-      let w = answered (grantOf T sender m (length buffer)) n in
-      (λ e. let h = w .0 e in (h .0, j .refuses n (h .0) .0 (h .1)), λ h. w .1 (h .0, j .refuses n (h .0) .1 (h .1)))
+  act-refuses-exactly n at =
+      let j = act-judges T sender m (length buffer) .refuses n at in
+      let w = answered (grantOf T sender m (length buffer)) n at in
+      (λ e. j .0 (w .0 e), λ f. w .1 (j .1 f))
 
   pub act-accepts-exactly : ((n : ℕ) × (actOf T sender m buffer .answer ≡ accepted n)) ↔ None (actFaults T sender m (length buffer))
   unfolding actOf

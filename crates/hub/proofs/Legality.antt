@@ -24,5 +24,5 @@ legal-stays T sender m buffer c h =
     (λ n. subst (λ (r : ℕ). Legal r) (sym (row-inside m (d .ask) (T .states) c n (omega (arith, d .allowed .states-sized)))) (row-legal (d .ask .act) (d .ask .block) (markOf m (d .ask .status) _) _ h))
     (λ n. subst (λ (r : ℕ). Legal r) (sym (row-outside m (d .ask) (T .states) c n)) h)
     (named-or (d .ask) c)))
-    (λ e. subst (λ (t : List ℕ). Legal (octet t c)) (sym (act-keeps T sender m buffer (e .0) 0 (e .1) .0)) h)
+    (λ e. subst (λ (t : List ℕ). Legal (octet t c)) (sym (act-keeps T sender m buffer (e .0) (e .1) (e .2) .0)) h)
     (answer-or T sender m buffer)

@@ -3,6 +3,7 @@ pub mod Writing
 pub mod Given
 pub mod Meaning
 pub mod Judged
+pub mod Places
 pub mod Called
 pub mod Determined
 pub mod Local

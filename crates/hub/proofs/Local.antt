@@ -8,7 +8,7 @@ use lib.Dec.{ltb, eqb}
 use lib.ListN.{length}
 use Rattle.octets.specs.Octet.{octet}
 use Rattle.octets.specs.Choice.{if_then_else_}
-use Rattle.octets.specs.Answer.{Answer, accepted, refused, unplaced}
+use Rattle.octets.specs.Answer.{Answer, accepted, refused}
 use Rattle.octets.proofs.Answer.{accepted-same, then-same}
 use Rattle.rows.specs.declared.Act.{Act}
 use Rattle.rows.specs.declared.Act.the-variants.{Seize, Release, Reset, Block, Unblock, ResetGroup, BlockGroup, UnblockGroup}
@@ -72,7 +72,7 @@ module _ (T U : Tables) (sender : ℕ) (m : List ℕ) where
       answer-cases (accepted a) = (refl, refl)
       answer-cases (refused n at) = (refl, refl)
 
-      row-cases : (g : Answer Ask) → grantOf T sender m (length buffer) ≡ g → (c : ℕ) → Names m c → octet (carriedOut T m buffer (unplaced g) .states) c ≡ octet (carriedOut U m buffer (unplaced g) .states) c
+      row-cases : (g : Answer Ask) → grantOf T sender m (length buffer) ≡ g → (c : ℕ) → Names m c → octet (carriedOut T m buffer g .states) c ≡ octet (carriedOut U m buffer g .states) c
       row-cases (accepted a) e c n =
           let g = granted T sender m (length buffer) a e in
           let r = reaches T sender m buffer a g in
@@ -85,19 +85,19 @@ module _ (T U : Tables) (sender : ℕ) (m : List ℕ) where
       pub local-answer : actOf T sender m buffer .answer ≡ actOf U sender m buffer .answer
       unfolding actOf
       local-answer =
-          answer-cases (unplaced (grantOf T sender m (length buffer))) .0
-          ∙ ap (λ g. carriedOut U m buffer (unplaced g) .answer) (grant-same (length buffer))
+          answer-cases (grantOf T sender m (length buffer)) .0
+          ∙ ap (λ g. carriedOut U m buffer g .answer) (grant-same (length buffer))
 
       -- the buffer afterwards is the same
       pub local-buffer : actOf T sender m buffer .buffer ≡ actOf U sender m buffer .buffer
       unfolding actOf
       local-buffer =
-          answer-cases (unplaced (grantOf T sender m (length buffer))) .1
-          ∙ ap (λ g. carriedOut U m buffer (unplaced g) .buffer) (grant-same (length buffer))
+          answer-cases (grantOf T sender m (length buffer)) .1
+          ∙ ap (λ g. carriedOut U m buffer g .buffer) (grant-same (length buffer))
 
       -- the named rows afterwards are the same
       pub local-rows : (c : ℕ) → Names m c → octet (actOf T sender m buffer .states) c ≡ octet (actOf U sender m buffer .states) c
       unfolding actOf
       local-rows c n =
           row-cases (grantOf T sender m (length buffer)) refl c n
-          ∙ ap (λ g. octet (carriedOut U m buffer (unplaced g) .states) c) (grant-same (length buffer))
+          ∙ ap (λ g. octet (carriedOut U m buffer g .states) c) (grant-same (length buffer))

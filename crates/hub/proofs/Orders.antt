@@ -11,7 +11,7 @@ use lib.ListN.{length}
 use lib.Seq.{ext-getD}
 use Rattle.octets.specs.Octet.{octet}
 use Rattle.octets.specs.Choice.{if_then_else_}
-use Rattle.octets.specs.Answer.{Answer, accepted, refused, _then_, unplaced}
+use Rattle.octets.specs.Answer.{Answer, accepted, refused, _then_}
 use Rattle.octets.proofs.Answer.{then-same}
 use Rattle.octets.proofs.Choice.{chosen, true-false}
 use Rattle.rows.specs.Rows.{isLegal, Legal}
@@ -70,7 +70,7 @@ module _ (owners : List ℕ) (sender : ℕ) (m : List ℕ) (s t : List ℕ) (lon
       ∙ ap (λ (x : Answer Ask). if sized (tables t owners) then x else refused 16 0) (then-same (askOf m) refl (λ a e. allowed-alike room a (ask-last m a e)))
 
   module _ (buffer : List ℕ) where
-    rows-alike : (g : Answer Ask) → grantOf (tables s owners) sender m (length buffer) ≡ g → (i : ℕ) → holdsOf owners sender i ≡ true → octet (carriedOut (tables s owners) m buffer (unplaced g) .states) i ≡ octet (carriedOut (tables t owners) m buffer (unplaced g) .states) i
+    rows-alike : (g : Answer Ask) → grantOf (tables s owners) sender m (length buffer) ≡ g → (i : ℕ) → holdsOf owners sender i ≡ true → octet (carriedOut (tables s owners) m buffer g .states) i ≡ octet (carriedOut (tables t owners) m buffer g .states) i
     rows-alike (refused n at) e i z = agree i z
     rows-alike (accepted a) e i z =
         let g = granted (tables s owners) sender m (length buffer) a e in
@@ -91,9 +91,9 @@ module _ (owners : List ℕ) (sender : ℕ) (m : List ℕ) (s t : List ℕ) (lon
     acts-alike =
         let g = grantOf (tables s owners) sender m (length buffer) in
         let q = granted-alike (length buffer) in (
-          same-back (unplaced (grantOf (tables s owners) sender m (length buffer))) .0 ∙ ap (λ x. carriedOut (tables t owners) m buffer (unplaced x) .answer) q,
-          same-back (unplaced (grantOf (tables s owners) sender m (length buffer))) .1 ∙ ap (λ x. carriedOut (tables t owners) m buffer (unplaced x) .buffer) q,
-          λ i z. rows-alike (grantOf (tables s owners) sender m (length buffer)) refl i z ∙ ap (λ x. octet (carriedOut (tables t owners) m buffer (unplaced x) .states) i) q,
+          same-back (grantOf (tables s owners) sender m (length buffer)) .0 ∙ ap (λ x. carriedOut (tables t owners) m buffer x .answer) q,
+          same-back (grantOf (tables s owners) sender m (length buffer)) .1 ∙ ap (λ x. carriedOut (tables t owners) m buffer x .buffer) q,
+          λ i z. rows-alike (grantOf (tables s owners) sender m (length buffer)) refl i z ∙ ap (λ x. octet (carriedOut (tables t owners) m buffer x .states) i) q,
         )
 
 -- a call leaves the rows that its sender does not hold
@@ -109,7 +109,7 @@ keeps-others owners c s i z =
     (λ n. absurd (true-false (holds-own owners (c .sender) i (omega (arith, n .1)) (names-mine T (c .sender) (c .message) (c .buffer) (d .ask) (d .allowed) i n .0)) z))
     (λ h. row-outside (c .message) (d .ask) s i h)
     (named-or (d .ask) i))
-    (λ e. ap (λ (l : List ℕ). octet l i) (act-keeps T (c .sender) (c .message) (c .buffer) (e .0) 0 (e .1) .0))
+    (λ e. ap (λ (l : List ℕ). octet l i) (act-keeps T (c .sender) (c .message) (c .buffer) (e .0) (e .1) (e .2) .0))
     (answer-or T (c .sender) (c .message) (c .buffer))
 
 -- the two facts, for every table, buffer and sender number, 16 and illegal rows included
@@ -187,7 +187,7 @@ pub illegal-stays : (T : Tables) (sender : ℕ) (m buffer : List ℕ) (c : ℕ) 
 unfolding actOf
 illegal-stays T sender m buffer c h = go (grantOf T sender m (length buffer)) refl
   where
-    go : (g : Answer Ask) → grantOf T sender m (length buffer) ≡ g → octet (carriedOut T m buffer (unplaced g) .states) c ≡ octet (T .states) c
+    go : (g : Answer Ask) → grantOf T sender m (length buffer) ≡ g → octet (carriedOut T m buffer g .states) c ≡ octet (T .states) c
     go (refused n at) e = refl
     go (accepted a) e =
         let g = granted T sender m (length buffer) a e in

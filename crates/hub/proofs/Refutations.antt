@@ -9,7 +9,7 @@ use lib.Dec.{ltb, eqb}
 use lib.ListN.{length, replicate, length-replicate, getD-replicate}
 use Rattle.octets.specs.Octet.{octet}
 use Rattle.octets.specs.Choice.{if_then_else_}
-use Rattle.octets.specs.Answer.{Answer, accepted, refused, _then_, unplaced}
+use Rattle.octets.specs.Answer.{Answer, accepted, refused, _then_}
 use Rattle.octets.proofs.Answer.{refused-same}
 use Rattle.layout.specs.Container.{variableAt, optionalAt, variableSlot, optionalSlot, sharesOf, judged, held, containerOf, partsOf}
 use Rattle.isup.specs.Table.{shapeOf}
@@ -115,7 +115,7 @@ abbrev grantBy : (Tables → ℕ → List ℕ → ℕ → Ask → Answer Ask) �
 grantBy allowed T sender m room = if sized T then (askOf m then allowed T sender m room) else refused 16 0
 
 abbrev actBy : (Tables → ℕ → List ℕ → ℕ → Ask → Answer Ask) → Tables → ℕ → List ℕ → List ℕ → After
-actBy allowed T sender m buffer = carriedOut T m buffer (unplaced (grantBy allowed T sender m (length buffer)))
+actBy allowed T sender m buffer = carriedOut T m buffer (grantBy allowed T sender m (length buffer))
 
 abbrev hubBy : (Tables → ℕ → List ℕ → ℕ → Ask → Answer Ask) → List ℕ → Calls
 hubBy allowed owners =
@@ -154,9 +154,9 @@ sees-a-stranger A =
     let p = granted-by legalFirst (lent 0 2) 1 block 0 (oneAsk Block 0) (rows-sized 0) (owned-sized 2) block-asks in
     let q = granted-by legalFirst (lent 5 2) 1 block 0 (oneAsk Block 0) (rows-sized 5) (owned-sized 2) block-asks in
     let r : refused 19 0 ≡ refused 20 0 =
-    ap (λ (g : Answer Ask). carriedOut (lent 0 2) block [] (unplaced g) .answer) (sym p)
+    ap (λ (g : Answer Ask). carriedOut (lent 0 2) block [] g .answer) (sym p)
     ∙ ap (λ (x : Reply). x .answer) y
-    ∙ ap (λ (g : Answer Ask). carriedOut (lent 5 2) block [] (unplaced g) .answer) q in
+    ∙ ap (λ (g : Answer Ask). carriedOut (lent 5 2) block [] g .answer) q in
     let z : _≡_ {A = ℕ} 19 20 = refused-same {A = ℕ} r .0 in
     omega arith
 
@@ -198,13 +198,13 @@ depends-on-the-merge = (
   λ e.
       let p = granted-by takenFirst (lent 0 2) 1 seize 0 (oneAsk Seize 0) (rows-sized 0) (owned-sized 2) seize-asks in
       let o = granted-by takenFirst (lent 0 2) 2 seize 0 (oneAsk Seize 0) (rows-sized 0) (owned-sized 2) seize-asks in
-      let s : hurried .after (seizedBy 2) (rows 0) ≡ rows 1 = ap (λ (g : Answer Ask). carriedOut (lent 0 2) seize [] (unplaced g) .states) o in
+      let s : hurried .after (seizedBy 2) (rows 0) ≡ rows 1 = ap (λ (g : Answer Ask). carriedOut (lent 0 2) seize [] g .states) o in
       let q = granted-by takenFirst (lent 1 2) 1 seize 0 (oneAsk Seize 0) (rows-sized 1) (owned-sized 2) seize-asks in
       let h : hurried .answer (seizedBy 1) (rows 0) ≡ hurried .answer (seizedBy 1) (hurried .after (seizedBy 2) (rows 0)) = first-same e in
       let r : refused 19 0 ≡ refused 21 0 =
-      ap (λ (g : Answer Ask). carriedOut (lent 0 2) seize [] (unplaced g) .answer) (sym p)
+      ap (λ (g : Answer Ask). carriedOut (lent 0 2) seize [] g .answer) (sym p)
       ∙ ap (λ (x : Reply). x .answer) (h ∙ ap (λ (l : List ℕ). hurried .answer (seizedBy 1) l) s)
-      ∙ ap (λ (g : Answer Ask). carriedOut (lent 1 2) seize [] (unplaced g) .answer) q in
+      ∙ ap (λ (g : Answer Ask). carriedOut (lent 1 2) seize [] g .answer) q in
       let z : _≡_ {A = ℕ} 19 21 = refused-same {A = ℕ} r .0 in
       omega arith,
 )

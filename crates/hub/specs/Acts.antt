@@ -7,7 +7,7 @@ use lib.Dec.{ltb, eqb}
 use lib.ListN.{length}
 use Rattle.octets.specs.Octet.{octet}
 use Rattle.octets.specs.Choice.{if_then_else_}
-use Rattle.octets.specs.Answer.{Answer, accepted, refused, _then_, unplaced}
+use Rattle.octets.specs.Answer.{Answer, accepted, refused, _then_}
 use Rattle.octets.specs.Filled.{filled}
 use Rattle.rows.specs.declared.Act.{Act}
 use Rattle.rows.specs.declared.Act.the-variants.{Seize, Release, Reset, Block, Unblock, ResetGroup, BlockGroup, UnblockGroup}
@@ -58,6 +58,6 @@ carriedOut T m buffer (accepted a) =
     after (accepted (length (replyOf m a))) (rowsAfter m a (T .states)) (filled (replyOf m a) buffer)
 carriedOut T m buffer (refused n at) = after (refused n at) (T .states) buffer
 
--- a call: a refusal returns its number alone
+-- a call; a refusal has the reader's octet, or 0
 unfoldable pub actOf : Tables → ℕ → List ℕ → List ℕ → After
-actOf T sender m buffer = carriedOut T m buffer (unplaced (grantOf T sender m (length buffer)))
+actOf T sender m buffer = carriedOut T m buffer (grantOf T sender m (length buffer))

@@ -279,7 +279,7 @@ fn judge(states: &[u8], owners: &[u8], sender: u32, message: &[u8], room: usize)
 }
 
 // A message from a sender: the answer's octets fill the front of `answer` and their count is given, and the named rows of `states` change.
-// Refused by the paper's order; a refusal changes no row and no octet of `answer`.
+// Refused by the paper's order, the reader's numbers with the octet that they are about; a refusal changes no row and no octet of `answer`.
 pub fn act(
     states: &mut [u8],
     owners: &[u8],
@@ -291,7 +291,7 @@ pub fn act(
         actOf (tables (now (states .entry)) (now (owners .entry))) sender (now (message .entry)) (now (answer .entry)) ⌝ }
 {
     match judge(states, owners, sender, message, answer.len()) {
-        Verdict::Refused(n, _) => Written::Refused(n, 0),
+        Verdict::Refused(n, at) => Written::Refused(n, at),
         Verdict::Granted(ask) => {
             write_reply(message, ask, answer);
             change_rows(states, message, ask);

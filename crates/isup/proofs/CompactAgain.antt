@@ -9,12 +9,12 @@ use native.Mathlib.Nat.{mod-lt, mod-eq-of-lt, add-mul-mod-self-left, add-mul-div
 use borrow.Author.Tests.{le-ltb}
 use lib.ListN.{length}
 use Rattle.octets.specs.Octet.{octet, octets, AllOctets}
-use Rattle.octets.specs.Answer.{Answer, accepted, refused, _then_, unplaced}
+use Rattle.octets.specs.Answer.{accepted, refused, _then_}
 use Rattle.octets.specs.Filled.{leaving, roomFor}
-use Rattle.octets.specs.Faults.{Judges, fault, numbered}
+use Rattle.octets.specs.Faults.{Judges, fault}
 use Rattle.octets.proofs.Answer.{accepted-same, refused-accepted}
 use Rattle.octets.proofs.Filled.{judges-filled, room-judges}
-use Rattle.octets.proofs.Faults.{judges-done, judges-there, judges-absent, judges-then, judges-unplaced}
+use Rattle.octets.proofs.Faults.{judges-done, judges-there, judges-absent, judges-then}
 use Rattle.writing.specs.Write.{order, orderOctets, writtenOf, exceeds, marks, contentsIn}
 use Rattle.layout.specs.Spans.{partOf}
 use Rattle.writing.specs.Compact.{saidWith, saidBy}
@@ -125,13 +125,8 @@ pub compact-judges : (m buffer : List ℕ) → AllOctets m → Judges (compactOf
 unfolding compactIn compactOf
 compact-judges m buffer o =
     judges-filled buffer (compactIn m then roomFor buffer) (compactFaults m buffer)
-    (room-judges (compactIn m) buffer (numbered (readerFaults m) ++ (fault 12 0 (CannotHold m) ∷ []))
-    (judges-then (unplaced (readOf m)) (againIn m) (numbered (readerFaults m)) _ (judges-unplaced (readOf m) (readerFaults m) (read-judges m))
-    (λ x e. again-judges m o x (read-exactly m x .0 (placed-back (readOf m) x e)))))
-  where
-    placed-back : (r : Answer Message) (x : Message) → unplaced r ≡ accepted x → r ≡ accepted x
-    placed-back (accepted y) x e = e
-    placed-back (refused n at) x e = absurd (refused-accepted e)
+    (room-judges (compactIn m) buffer (readerFaults m ++ (fault 12 0 (CannotHold m) ∷ []))
+    (judges-then (readOf m) (againIn m) (readerFaults m) _ (read-judges m) (λ x e. again-judges m o x (read-exactly m x .0 e))))
 
 -- ---- any two answers that a contract allows are equal, and a refusal keeps the buffer
 pub write-determined : (circuit kind : ℕ) (fixed first second run buffer : List ℕ) (r t : Written) (left left′ : List ℕ)

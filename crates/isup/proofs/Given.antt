@@ -4,7 +4,7 @@ use mathlib.Core.Path.{_≡_, sym, _∙_, ap}
 use mathlib.Core.List.{List}
 use native.Mathlib.Omega.{arith}
 use lib.ListN.{length}
-use Rattle.octets.specs.Answer.{accepted, refused, _then_, unplaced}
+use Rattle.octets.specs.Answer.{accepted, refused, _then_}
 use Rattle.layout.specs.declared.Row.{Row}
 use Rattle.layout.specs.declared.Parts.{Parts}
 use Rattle.layout.specs.declared.Body.{Body}
@@ -13,11 +13,11 @@ use Rattle.layout.specs.Container.{kindAt, partsOf}
 use Rattle.layout.specs.Told.{bodyTold}
 use Rattle.layout.proofs.Exactly.{parts-exactly}
 use Rattle.isup.specs.declared.Message.{Message}
-use Rattle.isup.specs.declared.Scanned.{Scanned}
-use Rattle.isup.specs.declared.Scanned.the-variants.{Whole, Faulty}
+use Rattle.isup.specs.declared.Reading.{Reading}
+use Rattle.isup.specs.declared.Reading.the-variants.{Read, Refused}
 use Rattle.isup.specs.Table.{shapeOf}
 use Rattle.isup.specs.Read.{circuitOf, message, readOf}
-use Rattle.isup.specs.Told.{scanTold}
+use Rattle.isup.specs.Told.{readingTold}
 
 module _ (m : List ℕ) (k : ℕ) (r : Row) (b : Body) (kq : k ≡ kindAt m 2) (rq : r ≡ shapeOf k) (bq : bodyTold b ≡ partsOf m 2 268 r) where
   whole : bodyTold b ≡ partsOf m 2 268 (shapeOf (kindAt m 2))
@@ -37,15 +37,9 @@ module _ (m : List ℕ) (k : ℕ) (r : Row) (b : Body) (kq : k ≡ kindAt m 2) (
   read-broken n at e = ap (λ x. x then λ p. accepted (message m p)) (sym (ap bodyTold e) ∙ whole)
 
 -- the reader's answer, handed on
-module _ (m : List ℕ) (x : Scanned) (q : scanTold x ≡ readOf m) where
-  pub whole-read : (y : Message) → x ≡ Whole y → readOf m ≡ accepted y
-  whole-read y e = sym q ∙ ap scanTold e
+module _ (m : List ℕ) (x : Reading) (q : readingTold x ≡ readOf m) where
+  pub read-message : (y : Message) → x ≡ Read y → readOf m ≡ accepted y
+  read-message y e = sym q ∙ ap readingTold e
 
-  pub faulty-read : (n at : ℕ) → x ≡ Faulty n at → readOf m ≡ refused n at
-  faulty-read n at e = sym q ∙ ap scanTold e
-
-  pub faulty-unplaced : (n at : ℕ) → x ≡ Faulty n at → refused n 0 ≡ unplaced (readOf m)
-  faulty-unplaced n at e = ap unplaced (sym (faulty-read n at e))
-
-  pub whole-unplaced : (y : Message) → x ≡ Whole y → accepted y ≡ unplaced (readOf m)
-  whole-unplaced y e = ap unplaced (sym (whole-read y e))
+  pub read-refused : (n at : ℕ) → x ≡ Refused n at → readOf m ≡ refused n at
+  read-refused n at e = sym q ∙ ap readingTold e

@@ -7,5 +7,6 @@ pub mod Rewritten
 pub mod WriteBack
 pub mod CompactAgain
 pub mod Lent
+pub mod Places
 pub mod Rel
 pub mod Refutations

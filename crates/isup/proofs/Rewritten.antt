@@ -33,6 +33,6 @@ module _ (m : List ℕ) (x : Message) (e : readOf m ≡ accepted x) where
   unfolding writeOf compactOf compactIn
   again-compact buffer = rw e refl
 
-pub faulty-compact : (m buffer : List ℕ) (n at : ℕ) → readOf m ≡ refused n at → leaving (refused n 0) buffer ≡ compactOf m buffer
+pub refused-compact : (m buffer : List ℕ) (n at : ℕ) → readOf m ≡ refused n at → leaving (refused n at) buffer ≡ compactOf m buffer
 unfolding compactOf compactIn
-faulty-compact m buffer n at e = rw e refl
+refused-compact m buffer n at e = rw e refl

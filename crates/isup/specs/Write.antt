@@ -4,7 +4,7 @@ use Prim.Native.Nat.{ℕ, _/_, _%_}
 use mathlib.Core.List.{List, [], _∷_}
 use lib.Dec.{ltb}
 use Rattle.octets.specs.Choice.{if_then_else_}
-use Rattle.octets.specs.Answer.{Answer, refused, _then_, unplaced}
+use Rattle.octets.specs.Answer.{Answer, refused, _then_}
 use Rattle.octets.specs.Filled.{Done, done, roomFor}
 use Rattle.layout.specs.declared.Row.{Row}
 use Rattle.layout.specs.declared.Row.the-variants.{Has, Unknown}
@@ -43,9 +43,9 @@ writeOf circuit kind fixed first second run buffer = done buffer (writeIn circui
 abbrev pub againIn : List ℕ → Message → Answer (ℕ × List ℕ)
 againIn m x = writeIn (x .circuit) (x .kind) (partOf m (x .parts .fixed)) (partOf m (x .parts .first)) (partOf m (x .parts .second)) (partOf m (x .parts .optional))
 
--- reading and writing again: the reader's numbers, then the writer's
+-- reading and writing again: the reader's numbers with their octets, then the writer's
 unfoldable pub compactIn : List ℕ → Answer (ℕ × List ℕ)
-compactIn m = unplaced (readOf m) then againIn m
+compactIn m = readOf m then againIn m
 
 -- all that it does: how many octets were written, or the refusal, 13 last; and the buffer afterwards
 unfoldable pub compactOf : List ℕ → List ℕ → Done ℕ

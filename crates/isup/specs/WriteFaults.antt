@@ -4,7 +4,7 @@ use mathlib.Core.Path.{_≡_}
 use mathlib.Core.List.{List, [], _∷_, _++_}
 use mathlib.Core.Logic.{_⊎_}
 use Rattle.octets.specs.Filled.{roomFault}
-use Rattle.octets.specs.Faults.{Fault, fault, numbered}
+use Rattle.octets.specs.Faults.{Fault, fault}
 use Rattle.layout.specs.declared.Row.{Row}
 use Rattle.layout.specs.declared.Row.the-variants.{Has, Unknown}
 use Rattle.writing.specs.Write.{Order}
@@ -46,5 +46,5 @@ CannotHold m = (x : Message) × (f : WellFormed m x) × Exceeds (f .shape) (said
 -- the reader's, 12, 13
 abbrev pub compactFaults : List ℕ → List ℕ → List Fault
 compactFaults m buffer =
-    (numbered (readerFaults m) ++ (fault 12 0 (CannotHold m) ∷ []))
+    (readerFaults m ++ (fault 12 0 (CannotHold m) ∷ []))
     ++ (roomFault (compactIn m) buffer ∷ [])

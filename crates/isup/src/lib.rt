@@ -2,14 +2,14 @@
 ghost use mathlib.Core.Path.{_≡_};
 ghost use Prim.Native.Nat.{_+_, _≤_, _<_};
 ghost use lib.ListN.{length};
-ghost use Rattle.octets.specs.Answer.{accepted, unplaced};
+ghost use Rattle.octets.specs.Answer.{accepted};
 ghost use Rattle.octets.specs.Filled.{leaving};
 ghost use Rattle.isup.specs.Table.{shapeOf};
 ghost use Rattle.isup.specs.Read.{circuitOf, readOf};
 ghost use Rattle.isup.specs.Write.{writeOf, compactOf};
 ghost use Rattle.layout.specs.Spans.{partOf};
 ghost use Rattle.octets.specs.Told.{writtenTold};
-ghost use Rattle.isup.specs.Told.{scanTold, readingTold};
+ghost use Rattle.isup.specs.Told.{readingTold};
 use layout::Body;
 use layout::Parts;
 use layout::Row;
@@ -80,15 +80,9 @@ pub struct Message {
 }
 
 // A message, or the refusal's number with the octet that it is about.
-pub enum Scanned {
-    Whole(Message),
-    Faulty(u8, usize),
-}
-
-// A message, or the refusal's number.
 pub enum Reading {
     Read(Message),
-    Refused(u8),
+    Refused(u8, usize),
 }
 
 // What the table says of a type octet: its shape row, or that it is not in the table. One answer for each of the 256.
@@ -139,28 +133,18 @@ fn circuit_of(message: &[u8]) -> u16
     message[0] as u16 + 256 * (message[1] as u16 % 16)
 }
 
-// Reads a message; a refusal comes with the octet that it is about.
-pub fn scan(message: &[u8]) -> Scanned
-    ensures { λ r. ⌜ scanTold r ≡ readOf (now (message .entry)) ⌝ }
+// Reads a message: its circuit, its type and where its parts stand; or the refusal's number with the octet that it is about, 0 for 1 and 2.
+pub fn read(message: &[u8]) -> Reading
+    ensures { λ r. ⌜ readingTold r ≡ readOf (now (message .entry)) ⌝ }
 {
     let kind = layout::kind_at(message, 2);
     match layout::read_parts(message, 2, LONGEST, shape_of(kind)) {
-        Body::Laid(parts) => Scanned::Whole(Message {
+        Body::Laid(parts) => Reading::Read(Message {
             circuit: circuit_of(message),
             kind,
             parts,
         }),
-        Body::Broken(n, at) => Scanned::Faulty(n, at),
-    }
-}
-
-// Reads a message: its circuit, its type and where its parts stand, or the refusal's number.
-pub fn read(message: &[u8]) -> Reading
-    ensures { λ r. ⌜ readingTold r ≡ unplaced (readOf (now (message .entry))) ⌝ }
-{
-    match scan(message) {
-        Scanned::Whole(x) => Reading::Read(x),
-        Scanned::Faulty(n, _) => Reading::Refused(n),
+        Body::Broken(n, at) => Reading::Refused(n, at),
     }
 }
 
@@ -205,13 +189,13 @@ pub fn write(
 }
 
 // Reads a message and writes it again, in its compact form: fills the front of `out` and keeps the rest, and answers how many octets were written.
-// Refused with the reader's numbers, then 12, then 13, and then `out` holds what it held.
+// Refused with the reader's numbers and octets, then 12, then 13, and then `out` holds what it held.
 pub fn compact(message: &[u8], out: &mut [u8]) -> Written
     ensures { λ r. ⌜ leaving (writtenTold r) (now (out .exit)) ≡ compactOf (now (message .entry)) (now (out .entry)) ⌝ }
 {
-    match scan(message) {
-        Scanned::Faulty(n, _) => Written::Refused(n, 0),
-        Scanned::Whole(x) => again(message, x, out),
+    match read(message) {
+        Reading::Refused(n, at) => Written::Refused(n, at),
+        Reading::Read(x) => again(message, x, out),
     }
 }
 

@@ -1,5 +1,5 @@
 -- Refused exactly when: the number given back is the first fault in the paper's order, with its octet, and acceptance is the absence of all.
-use Prim.Native.Nat.{ℕ, _+_, _-_, _<_}
+use Prim.Native.Nat.{ℕ, _+_, _-_, _≤_, _<_}
 use mathlib.Core.Path.{_≡_, refl, sym, _∙_, subst}
 use mathlib.Core.Bool.{true}
 use mathlib.Core.List.{List, [], _∷_}
@@ -27,7 +27,7 @@ use Rattle.layout.specs.Container.{closed, runFrom, nothing, target, pas
 use Rattle.layout.specs.Laid.{Share}
 use Rattle.layout.specs.Faults.{Breaks, NotClosed, variableFaults, Wanted, optionalFaults, VariablePart, OptionalPart, LargerStart, sharing, containerFaults, NoRow, rowFaults, messageFaults}
 use Rattle.layout.proofs.Pointed.{pointed-points}
-use Rattle.runs.proofs.Runs.{stop-from, from-stop}
+use Rattle.runs.proofs.Runs.{stop-from, from-stop, params-inside}
 use Rattle.layout.proofs.Exactly.{Proper, variable-proper, optional-proper, shares-exactly, slot-exactly, optional-slot-exactly}
 
 -- ---- a pointer that is there, as P says
@@ -55,11 +55,11 @@ slot-judges m w s k =
 
 -- ---- the optional run
 not-closed-stop : (m : List ℕ) (t i : ℕ) → NotClosed m t i → (stopFrom m t ≡ Ended i) ⊎ (stopFrom m t ≡ Passed i)
-not-closed-stop m t i x = ⊎-elim (λ h. inl (stop-from (x .0) m t (Ended i) (x .1) h)) (λ h. inr (stop-from (x .0) m t (Passed i) (x .1) h)) (x .2)
+not-closed-stop m t i x = ⊎-elim (λ h. inl (stop-from (x .0) m t (Ended i) (x .1) (omega (arith, h)))) (λ h. inr (stop-from (x .0) m t (Passed i) (x .1) h)) (x .2)
 
-run-judges : {P : Type 0} (m : List ℕ) (t : ℕ) → P → Judges (runFrom m t) (record { number = 7; there = λ at. P × NotClosed m t at } ∷ [])
+run-judges : {P : Type 0} (m : List ℕ) (t : ℕ) → t ≤ length m → P → Judges (runFrom m t) (record { number = 7; there = λ at. P × NotClosed m t at } ∷ [])
 unfolding runFrom
-run-judges {P} m t h = go (stopFrom m t) refl
+run-judges {P} m t l h = go (stopFrom m t) refl
   where
     go : (x : Stop) → stopFrom m t ≡ x → Judges (closed t x) (record { number = 7; there = λ at. P × NotClosed m t at } ∷ [])
     go (Closed z) e =
@@ -68,7 +68,7 @@ run-judges {P} m t h = go (stopFrom m t) refl
         (judges-done _)
     go (Ended z) e =
         let r = from-stop m t (Ended z) e in
-        judges-there (record { number = 7; there = λ at. P × NotClosed m t at }) [] z (h, (r .0, r .1, inl (r .2)))
+        judges-there (record { number = 7; there = λ at. P × NotClosed m t at }) [] z (h, (r .0, r .1, inl (omega (arith, r .2, params-inside (r .0) m t z l (r .1)))))
         (λ at y. ⊎-elim (λ q. cc) (λ q. absurd (let z : _≡_ {A = ℕ} 0 1 = cc in omega arith)) (not-closed-stop m t at (y .1)))
     go (Passed z) e =
         let r = from-stop m t (Passed z) e in
@@ -85,13 +85,13 @@ optional-judges m w s =
     let wanted : Wanted m w s = (o, eqb-false _ _ n) in
     judges-then (pointed m (endOf w s - 1) (endOf w s)) (λ t. runFrom m t) _ _
     (pointed-judges m (endOf w s - 1) (endOf w s) wanted)
-    (λ a e. let q : a ≡ target m (endOf w s - 1) = pointed-points m _ _ e .counted in rw q (run-judges m (target m (endOf w s - 1)) wanted))))
+    (λ a e. let q : a ≡ target m (endOf w s - 1) = pointed-points m _ _ e .counted in rw q (run-judges m (target m (endOf w s - 1)) (omega (arith, q, pointed-points m _ _ e .within)) wanted))))
     (λ f.
     let no : s .opt ≡ true → ⊥ = (λ h. let z : _≡_ {A = ℕ} 0 1 = cc in omega arith) in
     judges-absent _ (λ at x. no (x .1 .0 .0)) (judges-absent _ (λ at x. no (x .0 .0)) (judges-done nothing)))
 
 -- ---- parts that share an octet
-larger-later : (a b : Span) → LargerStart a b (later a b)
+pub larger-later : (a b : Span) → LargerStart a b (later a b)
 larger-later a b =
     ⊎-elim
     (λ t. rw t (record { first = omega (arith, ltb-true (a .from) (b .from) t); second = omega arith; one = inr refl }))

@@ -2,6 +2,7 @@ pub mod Pointed
 pub mod Whole
 pub mod Exactly
 pub mod Judged
+pub mod Places
 pub mod Gaps
 pub mod Header
 pub mod Determined

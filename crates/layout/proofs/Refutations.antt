@@ -23,3 +23,11 @@ two = record { fixed = 0; vars = 2; opt = true }
 pub pair-refused : partsOf (1 ∷ 3 ∷ 3 ∷ 3 ∷ 0 ∷ 1 ∷ 0 ∷ []) 0 268 (Has two) ≡ refused 8 6
 unfolding stepAt stops stopFrom runFrom variableAt optionalAt variableSlot optionalSlot sharesOf judged held containerOf partsOf
 pair-refused = refl
+
+-- three variable parts: the third shares an octet with the first and with the second, and 8 is about the first of these pairs, though the other's octet comes earlier
+abbrev pub three : Shape
+three = record { fixed = 0; vars = 3; opt = false }
+
+pub first-pair : partsOf (1 ∷ 6 ∷ 2 ∷ 2 ∷ 1 ∷ 3 ∷ 0 ∷ 1 ∷ 0 ∷ []) 0 268 (Has three) ≡ refused 8 7
+unfolding stepAt stops stopFrom runFrom variableAt optionalAt variableSlot optionalSlot sharesOf judged held containerOf partsOf
+first-pair = refl

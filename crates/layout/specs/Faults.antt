@@ -19,9 +19,9 @@ use Rattle.layout.specs.Laid.{VariableSlot, OptionalSlot, Share}
 abbrev pub Breaks : List ℕ → ℕ → ℕ → Type 0
 Breaks m e p = (target m p < e) ⊎ (length m ≤ target m p)
 
--- the optional part that starts at t passes L or is not closed: its whole parameters come to octet i, where the message has ended, or where a parameter stands that passes L
+-- the optional part that starts at t passes L or is not closed: its whole parameters come to octet i, which is L, where a name was due, or the name octet of a parameter that passes L
 abbrev pub NotClosed : List ℕ → ℕ → ℕ → Type 0
-NotClosed m t i = (qs : List Param) × Params m t qs i × ((length m ≤ i) ⊎ Passes m i)
+NotClosed m t i = (qs : List Param) × Params m t qs i × ((i ≡ length m) ⊎ Passes m i)
 
 -- `at` is the larger of the two starts
 pub record LargerStart (a b : Span) (at : ℕ) : Type 0 where

@@ -3,4 +3,5 @@ pub mod Container
 pub mod Told
 pub mod Laid
 pub mod Faults
+pub mod Places
 pub mod Gaps

@@ -10,7 +10,7 @@ use Rattle.octets.proofs.Answer.{one-answer}
 use Rattle.printing.specs.Sheet.{Sheet, sheet, pour}
 use Rattle.printing.specs.Shown.{decimalOf, hexOf}
 use Rattle.printing.proofs.Pours.{sheet-one}
-use Rattle.lines.specs.Lines.{refusal, writtenLine, blank}
+use Rattle.lines.specs.Lines.{refusal, faultLine, writtenLine, blank}
 
 -- two outcomes that are one sheet: the buffer and the next place
 pub sheet-determined : {s : Sheet} {left rest : List ℕ} {r q : ℕ} → sheet left r ≡ s → sheet rest q ≡ s → (left ≡ rest) × (r ≡ q)
@@ -39,6 +39,10 @@ put-shown-determined word xs out at = sheet-determined
 -- a refusal
 pub say-refusal-determined : (number : ℕ) (out : List ℕ) {left rest : List ℕ} {r q : ℕ} → sheet left r ≡ pour (sheet out 0) (refusal number) → sheet rest q ≡ pour (sheet out 0) (refusal number) → (left ≡ rest) × (r ≡ q)
 say-refusal-determined number out = sheet-determined
+
+-- a reader's refusal
+pub say-fault-determined : (number place : ℕ) (out : List ℕ) {left rest : List ℕ} {r q : ℕ} → sheet left r ≡ pour (sheet out 0) (faultLine number place) → sheet rest q ≡ pour (sheet out 0) (faultLine number place) → (left ≡ rest) × (r ≡ q)
+say-fault-determined number place out = sheet-determined
 
 -- what was written
 pub say-written-determined : (written : Written) (buffer out : List ℕ) {left rest : List ℕ} {r q : ℕ} → sheet left r ≡ pour (sheet out 0) (writtenLine (writtenTold written) buffer) → sheet rest q ≡ pour (sheet out 0) (writtenLine (writtenTold written) buffer) → (left ≡ rest) × (r ≡ q)

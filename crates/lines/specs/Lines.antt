@@ -2,7 +2,9 @@
 use Prim.Native.Nat.{ℕ}
 use Prim.Native.String.{String}
 use mathlib.Core.List.{List, _++_}
+use lib.Dec.{ltb}
 use lib.ListN.{take, replicate}
+use Rattle.octets.specs.Choice.{if_then_else_}
 use Rattle.octets.specs.Answer.{Answer, accepted, refused}
 use Rattle.octets.specs.Filled.{Done}
 use Rattle.words.specs.Said.{said}
@@ -20,6 +22,13 @@ shown word xs = said word ++ hexOf xs
 -- refused N
 abbrev pub refusal : ℕ → List ℕ
 refusal n = counted "refused " n
+
+-- refused 5 at 3, with the octet that a reader's number from 3 to 8 is about; every other number stays refused N
+unfoldable pub faultLine : ℕ → ℕ → List ℕ
+faultLine n at =
+    if ltb n 3 then refusal n
+    else if ltb 8 n then refusal n
+    else refusal n ++ counted " at " at
 
 -- octets 230113, of the buffer that was lent
 unfoldable pub writtenLine : Answer ℕ → List ℕ → List ℕ

@@ -6,7 +6,7 @@ ghost use Rattle.octets.specs.Octet.{octets};
 ghost use Rattle.octets.specs.Told.{writtenTold};
 ghost use Rattle.printing.specs.Sheet.{sheet, pour};
 ghost use Rattle.printing.specs.Shown.{decimalOf, hexOf};
-ghost use Rattle.lines.specs.Lines.{refusal, writtenLine, blank};
+ghost use Rattle.lines.specs.Lines.{refusal, faultLine, writtenLine, blank};
 use octets::Written;
 
 // How many octets of answer buffer a line may lend.
@@ -64,6 +64,20 @@ pub fn say_refusal(number: u8, out: &mut [u8]) -> usize
     ensures { λ r. ⌜ sheet (now (out .exit)) r ≡ pour (sheet (now (out .entry)) 0) (refusal number) ⌝ }
 {
     put_count(b"refused ", number as u32, out, 0)
+}
+
+// Puts refused N at the front, with the octet that a reader's number from 3 to 8 is about, and answers the next place.
+pub fn say_fault(number: u8, place: u32, out: &mut [u8]) -> usize
+    ensures { λ r. ⌜ sheet (now (out .exit)) r ≡ pour (sheet (now (out .entry)) 0) (faultLine number place) ⌝ }
+{
+    let next = say_refusal(number, out);
+    if number < 3 {
+        return next;
+    }
+    if 8 < number {
+        return next;
+    }
+    put_count(b" at ", place, out, next)
 }
 
 // Puts what was written to the front of a buffer, or the refusal, and answers the next place.

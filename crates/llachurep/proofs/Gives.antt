@@ -1,12 +1,11 @@
 -- Each way in which reading and finding end.
-use Prim.Native.Nat.{ℕ, _*_, _≤_, _<_}
+use Prim.Native.Nat.{ℕ, _+_, _*_, _≤_, _<_}
 use mathlib.Core.Path.{_≡_, refl, _∙_, ap}
 use mathlib.Core.List.{List, [], _∷_}
 use borrow.Author.Tests.{lt-ltb, le-ltb}
 use lib.ListN.{length}
-use Rattle.octets.specs.Answer.{Answer, accepted, refused, unplaced}
+use Rattle.octets.specs.Answer.{accepted, refused}
 use Rattle.octets.specs.Filled.{done, filled, roomFor}
-use Rattle.octets.proofs.Answer.{refused-accepted}
 use Rattle.isup.specs.declared.Message.{Message}
 use Rattle.isup.specs.Read.{readOf}
 use Rattle.finding.specs.Find.{Spot, locateOf}
@@ -19,17 +18,12 @@ valued {v} {w} {l} {g} e h = ap (λ (x : ℕ). given x l) e ∙ h
 pub valued-call : {v w : ℕ} {s b : List ℕ} {g : Called} → v ≡ w → called w s b ≡ g → called v s b ≡ g
 valued-call {v} {w} {s} {b} {g} e h = ap (λ (x : ℕ). called x s b) e ∙ h
 
--- what is accepted has no octet to drop
-pub unplaced-accepted : {A : Type 0} (x : Answer A) {a : A} → unplaced x ≡ accepted a → x ≡ accepted a
-unplaced-accepted (accepted b) e = e
-unplaced-accepted (refused n at) e = absurd (refused-accepted e)
-
 module _ (m parts : List ℕ) where
-  pub read-refused : (n : ℕ) → unplaced (readOf m) ≡ refused n 0 → given (65536 * n) parts ≡ givenBy (readGives m parts)
+  pub read-refused : (n at : ℕ) → readOf m ≡ refused n at → given (65536 * n + at) parts ≡ givenBy (readGives m parts)
   unfolding readGives
-  read-refused n e = rw e refl
+  read-refused n at e = rw e refl
 
-  module _ (x : Message) (e : unplaced (readOf m) ≡ accepted x) where
+  module _ (x : Message) (e : readOf m ≡ accepted x) where
     pub read-no-room : length parts < 10 → given 851968 parts ≡ givenBy (readGives m parts)
     unfolding readGives
     read-no-room h = rw (e, lt-ltb _ _ h) refl
@@ -39,7 +33,7 @@ module _ (m parts : List ℕ) where
     read-given h = rw (e, le-ltb _ _ h) refl
 
 module _ (m defaults : List ℕ) (name : ℕ) (stretch : List ℕ) where
-  pub find-refused : (n at : ℕ) → locateOf m defaults name ≡ refused n at → given (65536 * n) stretch ≡ givenBy (findGives m defaults name stretch)
+  pub find-refused : (n at : ℕ) → locateOf m defaults name ≡ refused n at → given (65536 * n + at) stretch ≡ givenBy (findGives m defaults name stretch)
   unfolding findGives
   find-refused n at e = rw e refl
 

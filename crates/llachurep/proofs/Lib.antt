@@ -1,4 +1,5 @@
 pub mod Small
+pub mod Places
 pub mod Gives
 pub mod Determined
 pub mod Keeps

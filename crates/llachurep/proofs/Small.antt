@@ -11,7 +11,7 @@ use lib.Dec.{ltb}
 use lib.ListN.{length}
 use Rattle.octets.specs.Octet.{AllOctets}
 use Rattle.octets.specs.Choice.{if_then_else_}
-use Rattle.octets.specs.Answer.{Answer, accepted, refused, _then_, unplaced}
+use Rattle.octets.specs.Answer.{Answer, accepted, refused, _then_}
 use Rattle.octets.specs.Filled.{Done, done, leaving, roomFor}
 use Rattle.octets.proofs.Answer.{refused-accepted, accepted-same, then-accepted, past-test}
 use Rattle.layout.specs.declared.Shape.{Shape}
@@ -42,7 +42,6 @@ use Rattle.finding.specs.Find.{locateOf}
 use Rattle.finding.proofs.Spots.{located-says}
 use Rattle.octets.proofs.Filled.{done-accepted}
 use Rattle.llachurep.specs.Boundary.{Small, valuesOf, readGives, findGives}
-use Rattle.llachurep.proofs.Gives.{unplaced-accepted}
 
 -- an answer with what it leaves
 whole-done : {A : Type 0} {d : Done A} {a : A} → d .answer ≡ accepted a → d ≡ leaving (accepted a) (d .left)
@@ -81,8 +80,8 @@ write-small circuit kind fixed first second run buffer n e =
 pub compact-small : (m buffer : List ℕ) (n : ℕ) → compactOf m buffer .answer ≡ accepted n → n ≤ 268
 unfolding compactOf compactIn
 compact-small m buffer n e =
-    let r = roomy buffer (unplaced (readOf m) then againIn m) e in
-    let t = then-accepted (unplaced (readOf m)) (againIn m) (r .1) in
+    let r = roomy buffer (readOf m then againIn m) e in
+    let t = then-accepted (readOf m) (againIn m) (r .1) in
     write-in-small _ _ _ _ _ _ n (r .0) (t .2)
 
 -- the parts of a message that reads
@@ -96,8 +95,8 @@ read-small m x e =
 pub read-gives-small : (m parts : List ℕ) (n : ℕ) → readGives m parts .answer ≡ accepted n → n ≤ 65535
 unfolding readGives
 read-gives-small m parts n e =
-    let r = done-accepted parts (unplaced (readOf m) then λ x. roomFor parts (10, valuesOf x)) (whole-done e) in
-    let t = then-accepted (unplaced (readOf m)) (λ x. roomFor parts (10, valuesOf x)) (r .1) in
+    let r = done-accepted parts (readOf m then λ x. roomFor parts (10, valuesOf x)) (whole-done e) in
+    let t = then-accepted (readOf m) (λ x. roomFor parts (10, valuesOf x)) (r .1) in
     let u = past-test 13 0 (ltb (length parts) 10) (t .2) in
     omega (arith, ap (λ (y : ℕ × List ℕ). y .0) (accepted-same (u .1)))
 
@@ -105,10 +104,10 @@ read-gives-small m parts n e =
 pub find-gives-small : (m defaults : List ℕ) (name : ℕ) (stretch : List ℕ) (n : ℕ) → findGives m defaults name stretch .answer ≡ accepted n → n ≤ 65535
 unfolding findGives
 find-gives-small m defaults name stretch n e =
-    let r = done-accepted stretch (unplaced (locateOf m defaults name) then λ s. roomFor stretch (s .holder, s .start ∷ s .len ∷ [])) (whole-done e) in
-    let t = then-accepted (unplaced (locateOf m defaults name)) (λ s. roomFor stretch (s .holder, s .start ∷ s .len ∷ [])) (r .1) in
+    let r = done-accepted stretch (locateOf m defaults name then λ s. roomFor stretch (s .holder, s .start ∷ s .len ∷ [])) (whole-done e) in
+    let t = then-accepted (locateOf m defaults name) (λ s. roomFor stretch (s .holder, s .start ∷ s .len ∷ [])) (r .1) in
     let u = past-test 13 0 (ltb (length stretch) 2) (t .2) in
-    let h = located-says m defaults name (t .0) (unplaced-accepted (locateOf m defaults name) (t .1)) in
+    let h = located-says m defaults name (t .0) (t .1) in
     let q = ap (λ (y : ℕ × List ℕ). y .0) (accepted-same (u .1)) in
     ⊎-elim (λ y. omega (arith, y .0)) (λ y. omega (arith, y .0)) (h .2 .found)
 

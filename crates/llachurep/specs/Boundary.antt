@@ -1,9 +1,9 @@
--- Answers as one number: 65536 * N + v, where N is the refusal's number, 0 for what is accepted, and v is what each function says.
+-- Answers as one number: 65536 * N + v, where N is the refusal's number, 0 for what is accepted, and v is what each function says, or the octet that a refusal is about.
 use Prim.Native.Nat.{ℕ, _+_, _*_, _≤_}
 use mathlib.Core.List.{List, [], _∷_}
 use lib.Dec.{eqb}
 use Rattle.octets.specs.Choice.{if_then_else_}
-use Rattle.octets.specs.Answer.{Answer, accepted, refused, _then_, unplaced}
+use Rattle.octets.specs.Answer.{Answer, accepted, refused, _then_}
 use Rattle.octets.specs.Filled.{Done, done, roomFor}
 use Rattle.layout.specs.declared.Span.{Span}
 use Rattle.layout.specs.Spans.{spanSize}
@@ -13,10 +13,10 @@ use Rattle.finding.specs.Find.{locateOf}
 use Rattle.number.specs.declared.Number.{Number}
 use Rattle.hub.specs.Acts.{After}
 
--- what is accepted gives its value, a refusal its number
+-- what is accepted gives its value, a refusal its number and its octet
 abbrev pub packed : Answer ℕ → ℕ
 packed (accepted v) = v
-packed (refused n at) = 65536 * n
+packed (refused n at) = 65536 * n + at
 
 -- a number, and what the lent buffer holds afterwards
 pub record Given : Type 0 where
@@ -55,11 +55,11 @@ Small x = InSixteenBits (x .parts .fixed) × InSixteenBits (x .parts .first) × 
 
 -- reading: 10 numbers; the reader's numbers, then 13 where there is no room for them
 unfoldable pub readGives : List ℕ → List ℕ → Done ℕ
-readGives m parts = done parts (unplaced (readOf m) then λ x. roomFor parts (10, valuesOf x))
+readGives m parts = done parts (readOf m then λ x. roomFor parts (10, valuesOf x))
 
 -- finding: 0 where the message held it, 100 where the defaults did, and the stretch's start and length; the finding's numbers, then 13
 unfoldable pub findGives : List ℕ → List ℕ → ℕ → List ℕ → Done ℕ
-findGives m defaults name stretch = done stretch (unplaced (locateOf m defaults name) then λ s. roomFor stretch (s .holder, s .start ∷ s .len ∷ []))
+findGives m defaults name stretch = done stretch (locateOf m defaults name then λ s. roomFor stretch (s .holder, s .start ∷ s .len ∷ []))
 
 -- reading a number: 4294967296 * N + 65536 * nature + 4096 * internal + 256 * plan + count
 abbrev pub packedNumber : Answer Number → ℕ

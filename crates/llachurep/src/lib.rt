@@ -1,9 +1,9 @@
-// The boundary: the proved functions for C and Rust. Answers are one number, 65536 * N + v: N is the refusal's number, 0 where there is none. A refusal changes nothing that was lent.
+// The boundary: the proved functions for C and Rust. Answers are one number, 65536 * N + v: N is the refusal's number, 0 where there is none; v is then the octet that it is about, 0 where it is about none. A refusal changes nothing that was lent.
 ghost use mathlib.Core.Path.{_≡_};
 ghost use Prim.Native.Nat.{ℕ, _+_, _*_, _≤_};
 ghost use lib.ListN.{length};
 ghost use mathlib.Core.List.{[], _∷_};
-ghost use Rattle.octets.specs.Answer.{accepted};
+ghost use Rattle.octets.specs.Answer.{accepted, refused};
 ghost use Rattle.octets.specs.Filled.{done, roomFor, filled};
 ghost use Rattle.isup.specs.Write.{writeOf, compactOf};
 ghost use Rattle.number.specs.Read.{readNumberOf};
@@ -20,11 +20,12 @@ use layout::Span;
 use number::NumberRead;
 use octets::Written;
 
-// A refusal's number as an answer.
-fn refusal(number: u8) -> u32
-    ensures { λ r. ⌜ r ≡ 65536 * number ⌝ }
+// A refusal's number and the octet that it is about, as an answer.
+fn refusal(number: u8, place: usize) -> u32
+    requires { ⌜ place ≤ 65535 ⌝ }
+    ensures { λ r. ⌜ r ≡ 65536 * number + place ⌝ }
 {
-    65536 * number as u32
+    65536 * number as u32 + place as u32
 }
 
 // How many octets a span has.
@@ -67,16 +68,16 @@ fn put_values(x: Message, parts: &mut [u16])
     parts[9] = size_of(optional);
 }
 
-// Reads a message. Accepted: 10, and parts[0..10) are circuit, type, then start and length of the fixed part, of the first and of the second contents, and of the optional run, each 0, 0 where there is none. Refused with the reader's numbers, then 13.
+// Reads a message. Accepted: 10, and parts[0..10) are circuit, type, then start and length of the fixed part, of the first and of the second contents, and of the optional run, each 0, 0 where there is none. Refused with the reader's numbers and octets, then 13.
 #[no_mangle]
 pub extern "C" fn llachurep_read(message: &[u8], parts: &mut [u16]) -> u32
     ensures { λ r. ⌜ given r (now (parts .exit)) ≡ givenBy (readGives (now (message .entry)) (now (parts .entry))) ⌝ }
 {
     match isup::read(message) {
-        Reading::Refused(n) => refusal(n),
+        Reading::Refused(n, at) => refusal(n, at),
         Reading::Read(x) => {
             if parts.len() < 10 {
-                return refusal(13);
+                return refusal(13, 0);
             }
             put_values(x, parts);
             10
@@ -86,12 +87,12 @@ pub extern "C" fn llachurep_read(message: &[u8], parts: &mut [u16]) -> u32
 
 // What all that fill a lent buffer answer, as one number.
 fn written(answer: Written) -> u32
-    requires { ⌜ ((n : ℕ) → writtenTold answer ≡ accepted n → n ≤ 65535) ⌝ }
+    requires { ⌜ ((n : ℕ) → writtenTold answer ≡ accepted n → n ≤ 65535) × ((n at : ℕ) → writtenTold answer ≡ refused n at → at ≤ 65535) ⌝ }
     ensures { λ r. ⌜ r ≡ packed (writtenTold answer) ⌝ }
 {
     match answer {
         Written::Octets(n) => n as u32,
-        Written::Refused(n, _) => refusal(n),
+        Written::Refused(n, at) => refusal(n, at),
     }
 }
 
@@ -111,7 +112,7 @@ pub extern "C" fn llachurep_write(
     written(isup::write(circuit, kind, fixed, first, second, optional, out))
 }
 
-// Reads a message and writes it again, in its compact form, to the front of `out`. Accepted: how many octets were written. Refused with the reader's numbers, then 12, then 13.
+// Reads a message and writes it again, in its compact form, to the front of `out`. Accepted: how many octets were written. Refused with the reader's numbers and octets, then 12, then 13.
 #[no_mangle]
 pub extern "C" fn llachurep_compact(message: &[u8], out: &mut [u8]) -> u32
     ensures { λ r. ⌜ given r (now (out .exit)) ≡ givenBy (compactOf (now (message .entry)) (now (out .entry))) ⌝ }
@@ -124,14 +125,14 @@ fn give_stretch(at: usize, len: usize, holder: u32, stretch: &mut [usize]) -> u3
     ensures { λ r. ⌜ given r (now (stretch .exit)) ≡ givenBy (done (now (stretch .entry)) (roomFor (now (stretch .entry)) (holder, at ∷ len ∷ []))) ⌝ }
 {
     if stretch.len() < 2 {
-        return refusal(13);
+        return refusal(13, 0);
     }
     stretch[0] = at;
     stretch[1] = len;
     holder
 }
 
-// Finds a parameter. Accepted: 0 where the message held it, 100 where the defaults did, and stretch[0..2) are start and length within whichever held it. Refused with the reader's numbers, 11, 15, then 13.
+// Finds a parameter. Accepted: 0 where the message held it, 100 where the defaults did, and stretch[0..2) are start and length within whichever held it. Refused with the reader's numbers and octets, 11, 15, then 13.
 #[no_mangle]
 pub extern "C" fn llachurep_find(
     message: &[u8],
@@ -144,7 +145,7 @@ pub extern "C" fn llachurep_find(
     match finding::locate(message, defaults, name) {
         Located::Message(at, len) => give_stretch(at, len, 0, stretch),
         Located::Defaults(at, len) => give_stretch(at, len, 100, stretch),
-        Located::Refused(n, _) => refusal(n),
+        Located::Refused(n, at) => refusal(n, at),
     }
 }
 
@@ -178,7 +179,7 @@ pub extern "C" fn llachurep_number_write(
     written(number::write_number(nature, plan, internal, signals, out))
 }
 
-// A message from a sender. Accepted: how many octets the answer has, at the front of `answer`; the named rows of `states` change. Refused with 16, the reader's numbers, 17, 14, 18, 19, 20, 21, 13.
+// A message from a sender. Accepted: how many octets the answer has, at the front of `answer`; the named rows of `states` change. Refused with 16, the reader's numbers and octets, 17, 14, 18, 19, 20, 21, 13.
 #[no_mangle]
 pub extern "C" fn llachurep_act(
     states: &mut [u8],

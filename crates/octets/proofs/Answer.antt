@@ -16,6 +16,10 @@ accepted-same e = cc
 pub refused-same : {A : Type 0} {n n′ at at′ : ℕ} → _≡_ {A = Answer A} (refused n at) (refused n′ at′) → (n ≡ n′) × (at ≡ at′)
 refused-same e = (cc, cc)
 
+-- a refusal says the same of any values
+pub refused-as : {A B : Type 0} {n n′ at at′ : ℕ} → _≡_ {A = Answer A} (refused n at) (refused n′ at′) → _≡_ {A = Answer B} (refused n at) (refused n′ at′)
+refused-as e = let s = refused-same e in λ i. refused (s .0 i) (s .1 i)
+
 -- accepted at the end, so accepted on the way
 pub then-accepted : {A B : Type 0} (x : Answer A) (f : A → Answer B) {b : B} → (x then f) ≡ accepted b → (a : A) × (x ≡ accepted a) × (f a ≡ accepted b)
 then-accepted (accepted a) f h = (a, refl, h)

@@ -1,12 +1,12 @@
 -- How an answer that is put together judges the faults of its pieces.
 use Prim.Native.Nat.{ℕ}
-use mathlib.Core.Path.{_≡_, refl, sym, _∙_, subst}
+use mathlib.Core.Path.{_≡_, refl, sym, subst}
 use mathlib.Core.Bool.{Bool, true, false}
 use mathlib.Core.List.{List, [], _∷_, _++_}
 use mathlib.Core.Logic.{_⊎_, inl, inr, ⊎-elim, _↔_}
 use Rattle.octets.specs.Choice.{if_then_else_}
-use Rattle.octets.specs.Answer.{Answer, accepted, refused, _then_, unplaced}
-use Rattle.octets.specs.Faults.{Fault, Absent, First, None, Judges, fault, numbered}
+use Rattle.octets.specs.Answer.{Answer, accepted, refused, _then_}
+use Rattle.octets.specs.Faults.{Fault, Absent, First, None, Judges, fault}
 use Rattle.octets.proofs.Answer.{refused-accepted, refused-same}
 
 -- a first fault and no fault exclude each other
@@ -14,7 +14,7 @@ pub first-none : (fs : List Fault) (n at : ℕ) → First fs n at → None fs �
 first-none [] n at f z = f
 first-none (g ∷ fs) n at f z = ⊎-elim (λ h. z .0 at (h .1)) (λ h. first-none fs n at (h .1) (z .1)) f
 
-first-append : (fs gs : List Fault) (n at : ℕ) → First (fs ++ gs) n at ↔ (First fs n at ⊎ (None fs × First gs n at))
+pub first-append : (fs gs : List Fault) (n at : ℕ) → First (fs ++ gs) n at ↔ (First fs n at ⊎ (None fs × First gs n at))
 first-append [] gs n at = (λ h. inr (tt, h), ⊎-elim (λ h. absurd h) (λ h. h .1))
 first-append (f ∷ fs) gs n at = (
   ⊎-elim
@@ -100,37 +100,3 @@ judges-then (refused n′ at′) g fs gs j k =
 pub judges-choice : {A : Type 0} {x y : Answer A} {fs : List Fault} (t : Bool) → (t ≡ true → Judges x fs) → (t ≡ false → Judges y fs) → Judges (if t then x else y) fs
 judges-choice true f g = f refl
 judges-choice false f g = g refl
-
--- where the octet is dropped, the number is still the first fault's
-first-numbered : (fs : List Fault) (n at : ℕ) → First fs n at → First (numbered fs) n 0
-first-numbered [] n at f = f
-first-numbered (g ∷ fs) n at f = ⊎-elim (λ x. inl (x .0, (refl, (at, x .1)))) (λ x. inr (λ q h. x .0 (h .1 .0) (h .1 .1), first-numbered fs n at (x .1))) f
-
-none-numbered : (fs : List Fault) → None fs ↔ None (numbered fs)
-none-numbered [] = (λ z. z, λ z. z)
-none-numbered (g ∷ fs) = (λ z. (λ q h. z .0 (h .1 .0) (h .1 .1), none-numbered fs .0 (z .1)), λ z. (λ q h. z .0 0 (refl, (q, h)), none-numbered fs .1 (z .1)))
-
-first-one : (fs : List Fault) (n n′ : ℕ) (at : ℕ) → First (numbered fs) n 0 → First (numbered fs) n′ at → (n ≡ n′) × (at ≡ 0)
-first-one [] n n′ at f f′ = absurd f
-first-one (g ∷ fs) n n′ at f f′ =
-    ⊎-elim
-    (λ x. ⊎-elim (λ y. (x .0 ∙ sym (y .0), y .1 .0)) (λ y. absurd (y .0 0 (refl, x .1 .1))) f′)
-    (λ x. ⊎-elim (λ y. absurd (x .0 at (y .1))) (λ y. first-one fs n n′ at (x .1) (y .1)) f′)
-    f
-
-pub judges-unplaced : {A : Type 0} (x : Answer A) (fs : List Fault) → Judges x fs → Judges (unplaced x) (numbered fs)
-judges-unplaced (accepted a) fs j =
-    let z = none-numbered fs .0 (j .accepts .0 (a, refl)) in
-    record {
-      refuses = λ n at. (λ e. absurd (refused-accepted (sym e)), λ f. absurd (first-none (numbered fs) n at f z));
-      accepts = (λ e. z, λ e. (a, refl));
-    }
-judges-unplaced (refused k q) fs j =
-    let f = first-numbered fs k q (j .refuses k q .0 refl) in
-    record {
-      refuses = λ n at. (
-        λ e. let s = refused-same e in subst (λ (p : ℕ). First (numbered fs) n p) (s .1) (subst (λ (p : ℕ). First (numbered fs) p 0) (s .0) f),
-        λ g. let s = first-one fs k n at f g in λ i. refused (s .0 i) (sym (s .1) i),
-      );
-      accepts = (λ e. absurd (refused-accepted (e .1)), λ z. absurd (first-none (numbered fs) k 0 f z));
-    }

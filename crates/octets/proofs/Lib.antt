@@ -3,6 +3,7 @@ pub mod Tests
 pub mod Choice
 pub mod Answer
 pub mod Faults
+pub mod Places
 pub mod Stretch
 pub mod Filled
 pub mod Counting

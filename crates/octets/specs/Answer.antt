@@ -11,8 +11,3 @@ infixr 9 _then_
 abbrev pub _then_ : {A B : Type 0} → Answer A → (A → Answer B) → Answer B
 _then_ (accepted a) f = f a
 _then_ (refused n at) f = refused n at
-
--- the number alone, where an answer does not show the octet that it is about
-abbrev pub unplaced : {A : Type 0} → Answer A → Answer A
-unplaced (accepted a) = accepted a
-unplaced (refused n at) = refused n 0

@@ -32,8 +32,3 @@ pub record Judges {A : Type 0} (x : Answer A) (fs : List Fault) : Type 0 where
 -- the fault with that number, about octet q, where P says what is wrong
 abbrev pub fault : ℕ → ℕ → Type 0 → Fault
 fault n q P = record { number = n; there = λ at. (at ≡ q) × P }
-
--- the same faults where the octet is not shown
-abbrev pub numbered : List Fault → List Fault
-numbered [] = []
-numbered (f ∷ fs) = fault (f .number) 0 ((at : ℕ) × f .there at) ∷ numbered fs

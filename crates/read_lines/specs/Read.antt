@@ -9,7 +9,7 @@ use Rattle.layout.specs.declared.Row.the-variants.{Has, Unknown}
 use Rattle.layout.specs.Spans.{partOf}
 use Rattle.isup.specs.declared.Message.{Message}
 use Rattle.words.specs.Said.{said}
-use Rattle.lines.specs.Lines.{counted, shown, refusal}
+use Rattle.lines.specs.Lines.{counted, shown, refusal, faultLine}
 
 -- optional yes, or optional no
 abbrev pub optionalWord : Bool → List ℕ
@@ -29,7 +29,7 @@ partsLine m p =
     ++ shown " second " (partOf m (p .second))
     ++ shown " optional " (partOf m (p .optional))
 
--- circuit 5 type 17, and its parts
+-- circuit 5 type 17, and its parts; or the refusal with its octet
 unfoldable pub readLine : List ℕ → Answer Message → List ℕ
 readLine m (accepted x) = counted "circuit " (x .circuit) ++ shown " type " (x .kind ∷ []) ++ partsLine m (x .parts)
-readLine m (refused n at) = refusal n
+readLine m (refused n at) = faultLine n at

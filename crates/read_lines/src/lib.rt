@@ -3,11 +3,11 @@ ghost use mathlib.Core.Path.{_≡_};
 ghost use Rattle.layout.specs.Spans.{partOf};
 ghost use Rattle.isup.specs.Table.{shapeOf};
 ghost use Rattle.isup.specs.Read.{readOf};
-ghost use Rattle.isup.specs.Told.{scanTold};
+ghost use Rattle.isup.specs.Told.{readingTold};
 ghost use Rattle.printing.specs.Sheet.{sheet, pour};
 ghost use Rattle.read_lines.specs.Read.{shapeLine, partsLine, readLine};
 use isup::Message;
-use isup::Scanned;
+use isup::Reading;
 use layout::Parts;
 use layout::Row;
 use layout::Span;
@@ -53,7 +53,7 @@ fn put_parts(message: &[u8], parts: Parts, out: &mut [u8], at: usize) -> usize
 
 // What a message says that reads so.
 fn say_message(message: &[u8], x: Message, out: &mut [u8]) -> usize
-    ensures { λ r. ⌜ sheet (now (out .exit)) r ≡ pour (sheet (now (out .entry)) 0) (readLine (now (message .entry)) (scanTold (Scanned.Whole x))) ⌝ }
+    ensures { λ r. ⌜ sheet (now (out .exit)) r ≡ pour (sheet (now (out .entry)) 0) (readLine (now (message .entry)) (readingTold (Reading.Read x))) ⌝ }
 {
     let parts = x.parts;
     let circuit = lines::put_count(b"circuit ", x.circuit as u32, out, 0);
@@ -65,8 +65,8 @@ fn say_message(message: &[u8], x: Message, out: &mut [u8]) -> usize
 pub fn say_read(message: &[u8], out: &mut [u8]) -> usize
     ensures { λ r. ⌜ sheet (now (out .exit)) r ≡ pour (sheet (now (out .entry)) 0) (readLine (now (message .entry)) (readOf (now (message .entry)))) ⌝ }
 {
-    match isup::scan(message) {
-        Scanned::Faulty(n, _) => lines::say_refusal(n, out),
-        Scanned::Whole(x) => say_message(message, x, out),
+    match isup::read(message) {
+        Reading::Refused(n, at) => lines::say_fault(n, at as u32, out),
+        Reading::Read(x) => say_message(message, x, out),
     }
 }

@@ -1,4 +1,4 @@
-// Shows each sample message of document 01 with its outcome: what the hub answers and leaves in the rows, the called number, the compact form, the optional parameter, or the refusal's number.
+// Shows each sample message of document 01 with its outcome: what the hub answers and leaves in the rows, the called number, the compact form, the optional parameter, or the refusal's number with its octet.
 use asks::Verdict;
 use finding::Located;
 use isup::Reading;
@@ -45,6 +45,19 @@ fn put_refusal(number: u8, line: &mut [u8], at: usize) -> usize {
     printing::put_number(number as u32, line, next)
 }
 
+// Puts a refusal's number and the octet that a reader's number from 3 to 8 is about; answers the next place.
+fn put_fault(number: u8, place: usize, line: &mut [u8], at: usize) -> usize {
+    let next = put_refusal(number, line, at);
+    if number < 3 {
+        return next;
+    }
+    if 8 < number {
+        return next;
+    }
+    let word = printing::put_text(b" at ", line, next);
+    printing::put_number(number_of(place), line, word)
+}
+
 // Puts octets after a word, and answers the next place.
 fn put_shown(word: &[u8], octets: &[u8], line: &mut [u8], at: usize) -> usize {
     let next = printing::put_text(word, line, at);
@@ -54,7 +67,7 @@ fn put_shown(word: &[u8], octets: &[u8], line: &mut [u8], at: usize) -> usize {
 // Puts the circuits that a message names and their rows, and answers the next place.
 fn put_rows(message: &[u8], states: &[u8], line: &mut [u8], at: usize) -> usize {
     match asks::decode(message) {
-        Verdict::Refused(n, _) => put_refusal(n, line, at),
+        Verdict::Refused(n, place) => put_fault(n, place, line, at),
         Verdict::Granted(ask) => {
             let first = printing::put_text(b" first circuit ", line, at);
             let rows = printing::put_number(number_of(ask.circuit), line, first);
@@ -68,12 +81,12 @@ fn put_rows(message: &[u8], states: &[u8], line: &mut [u8], at: usize) -> usize 
     }
 }
 
-// A circuit as a number to be shown.
-fn number_of(circuit: usize) -> u32 {
-    if 4095 < circuit {
+// A circuit or an octet's place as a number to be shown: neither is above 4095.
+fn number_of(count: usize) -> u32 {
+    if 4095 < count {
         return 4095;
     }
-    circuit as u32
+    count as u32
 }
 
 // Puts what the hub makes of a message, every row 0 before and every circuit the sender's; answers the next place.
@@ -87,7 +100,7 @@ fn put_acted(
 ) -> usize {
     fill(states, 0);
     match hub::act(states, owners, 1, message, answer) {
-        Written::Refused(n, _) => put_refusal(n, line, at),
+        Written::Refused(n, place) => put_fault(n, place, line, at),
         Written::Octets(n) => {
             let next = put_shown(b" answer ", front(answer, n), line, at);
             put_rows(message, states, line, next)
@@ -117,7 +130,7 @@ fn contents_of(message: &[u8], from: usize, to: usize) -> &[u8] {
 // Puts the called number of an IAM, and answers the next place.
 fn put_called(message: &[u8], signals: &mut [u8], line: &mut [u8], at: usize) -> usize {
     match isup::read(message) {
-        Reading::Refused(n) => put_refusal(n, line, at),
+        Reading::Refused(n, place) => put_fault(n, place, line, at),
         Reading::Read(x) => {
             let parts = x.parts;
             let first = parts.first;
@@ -134,7 +147,7 @@ fn put_called(message: &[u8], signals: &mut [u8], line: &mut [u8], at: usize) ->
 // Puts the compact form of a message, and answers the next place.
 fn put_compact(message: &[u8], out: &mut [u8], line: &mut [u8], at: usize) -> usize {
     match isup::compact(message, out) {
-        Written::Refused(n, _) => put_refusal(n, line, at),
+        Written::Refused(n, place) => put_fault(n, place, line, at),
         Written::Octets(n) => put_shown(b" compact ", front(out, n), line, at),
     }
 }
@@ -142,7 +155,7 @@ fn put_compact(message: &[u8], out: &mut [u8], line: &mut [u8], at: usize) -> us
 // Puts the contents of the optional parameter with name 20, and answers the next place.
 fn put_found(message: &[u8], line: &mut [u8], at: usize) -> usize {
     match finding::locate(message, &message[0..0], 0x20) {
-        Located::Refused(n, _) => put_refusal(n, line, at),
+        Located::Refused(n, place) => put_fault(n, place, line, at),
         Located::Message(_, _) => {
             put_shown(
                 b" name 20 contents ",

@@ -14,7 +14,7 @@ use Rattle.printing.specs.Sheet.{Sheet, pour}
 use Rattle.requests.specs.Kinds.{FieldSays}
 use Rattle.requests.specs.Rows.{OWN, SET}
 use Rattle.requests.specs.Words.{numberAt, octetAt, octetsAt}
-use Rattle.lines.specs.Lines.{shown, refusal, lent}
+use Rattle.lines.specs.Lines.{shown, faultLine, lent}
 
 -- the tables afterwards, and the answer's line
 pub record Turn : Type 0 where
@@ -53,10 +53,10 @@ tableTurn T which gs =
     else if eqb which SET then turn (tables (spread (T .states) (numberAt gs 0) (numberAt gs 1) (octetAt gs 2)) (T .owners)) (said "ok")
     else turn T (rowsLine (T .states) (numberAt gs 0) (numberAt gs 1))
 
--- answer 05002901020300, or answer - where there are no answer octets
+-- answer 05002901020300, or answer - where there are no answer octets; or the refusal with the reader's octet
 unfoldable pub replyLine : Answer ℕ → List ℕ → List ℕ
 replyLine (accepted n) buffer = shown "answer " (take n buffer)
-replyLine (refused n at) buffer = refusal n
+replyLine (refused n at) buffer = faultLine n at
 
 -- the same of what the hub did
 abbrev pub actLine : After → List ℕ

@@ -1,7 +1,8 @@
 // What the desk answers to the requests of the tables (own, set, rows) and of the hub (act), and what they leave in the tables.
 ghost use mathlib.Core.Path.{_≡_};
 ghost use mathlib.Core.List.{[]};
-ghost use Prim.Native.Nat.{_+_, _-_};
+ghost use Prim.Native.Nat.{ℕ, _+_, _-_, _≤_};
+ghost use Rattle.octets.specs.Answer.{refused};
 ghost use Rattle.octets.specs.Told.{writtenTold};
 ghost use Rattle.hub.specs.Tables.{tables};
 ghost use Rattle.printing.specs.Sheet.{sheet, pour};
@@ -81,13 +82,14 @@ pub fn table_turn(request: Request, states: &mut [u8], owners: &mut [u8], out: &
     )
 }
 
-// What the hub answered, its octets at the front of a buffer.
+// What the hub answered, its octets at the front of a buffer; or the refusal with the reader's octet.
 fn say_acted(acted: Written, buffer: &[u8], out: &mut [u8]) -> usize
+    requires { ⌜ ((n at : ℕ) → writtenTold acted ≡ refused n at → at ≤ 65535) ⌝ }
     ensures { λ r. ⌜ sheet (now (out .exit)) r ≡ pour (sheet (now (out .entry)) 0) (replyLine (writtenTold acted) (now (buffer .entry))) ⌝ }
 {
     match acted {
         Written::Octets(n) => lines::put_shown(b"answer ", lines::stretch(buffer, 0, n), out, 0),
-        Written::Refused(n, _) => lines::say_refusal(n, out),
+        Written::Refused(n, at) => lines::say_fault(n, at as u32, out),
     }
 }
 

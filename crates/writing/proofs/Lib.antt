@@ -11,3 +11,4 @@ pub mod Shorter
 pub mod Determined
 pub mod Held
 pub mod Refutations
+pub mod Places

@@ -1,10 +1,12 @@
 use Prim.Native.Nat.{ℕ}
-use mathlib.Core.Path.{_∙_, ap}
+use mathlib.Core.Path.{sym, _∙_, ap}
+use native.Mathlib.Omega.{arith}
 use denote.Ref.{now}
+use Rattle.isup.proofs.Places.{compact-places-within}
 use Rattle.octets.specs.Filled.{Done}
 use Rattle.printing.specs.Sheet.{sheet, pour}
 use Rattle.requests.proofs.Said.{number-at, octets-at}
-use Rattle.lines.specs.Lines.{octetsLine}
+use Rattle.codec_lines.specs.Codec.{compactLine}
 use borrow.Author.Needs.{needs}
 use Rattle.codec_lines.proofs.say_compact.Statement.{statement}
 use Rattle.codec_lines.proofs.say_compact.Tie as tie
@@ -36,8 +38,8 @@ stretch-requires c κs = search needs
 compact-requires : tie.Need-compact-requires
 compact-requires c κs = search needs
 
-say-written-requires : tie.Need-say-written-requires
-say-written-requires c κs = search needs
+say-again-requires : tie.Need-say-again-requires
+say-again-requires c κs = λ n at e. omega (arith, compact-places-within _ _ n at (sym (ap (λ (d : Done ℕ). d .answer) (c .before .before .before .before .compact .ensures)) ∙ e))
 
 same-length : tie.Need-same-length
 same-length c = search needs
@@ -47,7 +49,7 @@ returns c =
     let a = c .before .before .before .before .before .before .before .before .before .before .before .before .before .before .before .before .before .before .before .before .args in
     let s = now (a .octets) in
     let f = a .t1 in
-    let t = c .before .before .before .say-written .ensures ∙ ap (λ (x : Done ℕ). pour (sheet (now (a .out)) 0) (octetsLine x)) (c .before .before .before .before .before .before .before .before .compact .ensures) in
+    let t = c .before .before .before .say-again .ensures ∙ ap (λ (x : Done ℕ). pour (sheet (now (a .out)) 0) (compactLine x)) (c .before .before .before .before .before .before .before .before .compact .ensures) in
     rw (octets-at s f 0, number-at s f 1) (rw (c .before .before .before .before .before .before .before .before .before .before .before .before .front .ensures, c .before .before .before .before .before .before .before .before .before .before .before .before .before .before .before .blank-space .ensures .0, c .before .before .before .before .before .before .before .before .before .before .stretch .ensures) at t)
 
 pub say-compact-spec : {M : Type 1} → statement M
@@ -63,6 +65,6 @@ say-compact-spec =
     cast-stretch
     stretch-requires
     compact-requires
-    say-written-requires
+    say-again-requires
     same-length
     returns)

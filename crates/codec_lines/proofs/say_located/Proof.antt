@@ -2,6 +2,7 @@ use Rattle.finding.specs.Told.{locatedTold}
 use Rattle.finding.specs.declared.Located.{Located}
 use Rattle.printing.specs.Sheet.{sheet, pour}
 use Rattle.codec_lines.specs.Codec.{foundLine}
+use native.Mathlib.Omega.{arith}
 use denote.Ref.{now}
 use mathlib.Core.Path.{sym, _∙_, ap}
 use borrow.Author.Needs.{needs}
@@ -35,8 +36,11 @@ put-shown-requires-2 c κs = search needs
 enum-known-located-3 : tie.Need-enum-known-located-3
 enum-known-located-3 c = search needs
 
-say-refusal-requires : tie.Need-say-refusal-requires
-say-refusal-requires c κs = search needs
+cast-say-fault : tie.Need-cast-say-fault
+cast-say-fault c = omega (arith, c .before .before .before .before .before .before .pre _ _ (ap locatedTold (c .before .located3 .given .1)))
+
+say-fault-requires : tie.Need-say-fault-requires
+say-fault-requires c κs = search needs
 
 same-length : tie.Need-same-length
 same-length c = search needs
@@ -57,7 +61,7 @@ same-length-3 c = search needs
 
 returns-3 : tie.Need-returns-3
 unfolding foundLine
-returns-3 c = (c .before .before .say-refusal .ensures) ∙ ap (λ (x : Located). pour (sheet (now (c .before .before .before .before .before .before .before .before .before .before .args .out)) 0) (foundLine (now (c .before .before .before .before .before .before .before .before .before .before .args .message)) (now (c .before .before .before .before .before .before .before .before .before .before .args .defaults)) (locatedTold x))) (sym (c .before .before .before .before .before .located3 .given .1))
+returns-3 c = (c .before .before .say-fault .ensures) ∙ ap (λ (x : Located). pour (sheet (now (c .before .before .before .before .before .before .before .before .before .before .args .out)) 0) (foundLine (now (c .before .before .before .before .before .before .before .before .before .before .args .message)) (now (c .before .before .before .before .before .before .before .before .before .before .args .defaults)) (locatedTold x))) (sym (c .before .before .before .before .before .located3 .given .1))
 
 pub say-located-spec : {M : Type 1} → statement M
 say-located-spec =
@@ -72,7 +76,8 @@ say-located-spec =
     stretch-requires-2
     put-shown-requires-2
     enum-known-located-3
-    say-refusal-requires
+    cast-say-fault
+    say-fault-requires
     same-length
     returns
     same-length-2

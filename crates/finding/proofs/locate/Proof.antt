@@ -1,12 +1,12 @@
 use denote.Ref.{now}
 use mathlib.Core.Path.{_∙_}
-use Rattle.finding.proofs.Given.{faulty-located, whole-located}
+use Rattle.finding.proofs.Given.{refused-located, read-located}
 use borrow.Author.Needs.{needs}
 use Rattle.finding.proofs.locate.Statement.{statement}
 use Rattle.finding.proofs.locate.Tie as tie
 
-scan-requires : tie.Need-scan-requires
-scan-requires c κs = search needs
+read-requires : tie.Need-read-requires
+read-requires c κs = search needs
 
 enum-known-n : tie.Need-enum-known-n
 enum-known-n c = search needs
@@ -18,12 +18,12 @@ locate-in-requires : tie.Need-locate-in-requires
 locate-in-requires c κs = search needs
 
 returns : tie.Need-returns
-returns c = let a = c .before .before .before .before .before .before .args in faulty-located (now (a .message)) _ (c .before .before .before .scan .ensures) (now (a .defaults)) (a .name) _ _ (c .before .n .given .1)
+returns c = let a = c .before .before .before .before .before .before .args in refused-located (now (a .message)) _ (c .before .before .before .read .ensures) (now (a .defaults)) (a .name) _ _ (c .before .n .given .1)
 
 returns-2 : tie.Need-returns-2
-returns-2 c = let a = c .before .before .before .before .before .before .before .before .args in c .locate-in .ensures ∙ whole-located (now (a .message)) _ (c .before .before .before .before .before .scan .ensures) (now (a .defaults)) (a .name) _ (c .before .before .before .x .given .1)
+returns-2 c = let a = c .before .before .before .before .before .before .before .before .args in c .locate-in .ensures ∙ read-located (now (a .message)) _ (c .before .before .before .before .before .read .ensures) (now (a .defaults)) (a .name) _ (c .before .before .before .x .given .1)
 
 pub locate-spec : {M : Type 1} → statement M
 locate-spec =
     tie.close
-    (tie.spec scan-requires enum-known-n enum-known-x locate-in-requires returns returns-2)
+    (tie.spec read-requires enum-known-n enum-known-x locate-in-requires returns returns-2)

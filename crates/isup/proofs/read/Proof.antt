@@ -1,23 +1,42 @@
 use denote.Ref.{now}
-use Rattle.isup.proofs.Given.{whole-unplaced, faulty-unplaced}
+use Rattle.isup.proofs.Given.{read-long, read-laid, read-broken}
 use borrow.Author.Needs.{needs}
 use Rattle.isup.proofs.read.Statement.{statement}
 use Rattle.isup.proofs.read.Tie as tie
 
-scan-requires : tie.Need-scan-requires
-scan-requires c κs = search needs
+kind-at-requires : tie.Need-kind-at-requires
+kind-at-requires c κs = search needs
 
-enum-known-x : tie.Need-enum-known-x
-enum-known-x c = search needs
+shape-of-requires : tie.Need-shape-of-requires
+shape-of-requires c κs = search needs
+
+read-parts-requires : tie.Need-read-parts-requires
+read-parts-requires c κs = search needs
+
+enum-known-parts : tie.Need-enum-known-parts
+enum-known-parts c = search needs
+
+circuit-of-requires : tie.Need-circuit-of-requires
+circuit-of-requires c κs = read-long (now (c .before .before .before .before .before .before .before .args .message)) _ _ _ (c .before .before .before .before .before .kind-at .ensures) (c .before .before .before .before .shape-of .ensures) (c .before .before .before .read-parts .ensures) _ (c .before .parts .given .1)
 
 enum-known-n : tie.Need-enum-known-n
 enum-known-n c = search needs
 
 returns : tie.Need-returns
-returns c = whole-unplaced (now (c .before .before .before .before .before .args .message)) _ (c .before .before .before .scan .ensures) _ (c .before .x .given .1)
+returns c = read-laid (now (c .before .before .before .before .before .before .before .before .args .message)) _ _ _ (c .before .before .before .before .before .before .kind-at .ensures) (c .before .before .before .before .before .shape-of .ensures) (c .before .before .before .before .read-parts .ensures) _ _ (c .before .before .parts .given .1) (c .circuit-of .ensures)
 
 returns-2 : tie.Need-returns-2
-returns-2 c = faulty-unplaced (now (c .before .before .before .before .before .args .message)) _ (c .before .before .before .scan .ensures) _ _ (c .before .n .given .1)
+returns-2 c = read-broken (now (c .before .before .before .before .before .before .before .args .message)) _ _ _ (c .before .before .before .before .before .kind-at .ensures) (c .before .before .before .before .shape-of .ensures) (c .before .before .before .read-parts .ensures) _ _ (c .before .n .given .1)
 
 pub read-spec : {M : Type 1} → statement M
-read-spec = tie.close (tie.spec scan-requires enum-known-x enum-known-n returns returns-2)
+read-spec =
+    tie.close
+    (tie.spec
+    kind-at-requires
+    shape-of-requires
+    read-parts-requires
+    enum-known-parts
+    circuit-of-requires
+    enum-known-n
+    returns
+    returns-2)

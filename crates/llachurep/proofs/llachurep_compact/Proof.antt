@@ -1,6 +1,7 @@
 use Rattle.llachurep.proofs.Gives.{valued}
 use Rattle.octets.specs.Filled.{Done}
 use Rattle.llachurep.proofs.Small.{compact-small}
+use Rattle.isup.proofs.Places.{compact-places-within}
 use Rattle.llachurep.specs.Boundary.{givenBy}
 use native.Mathlib.Omega.{arith}
 use denote.Ref.{now}
@@ -14,7 +15,7 @@ compact-requires : tie.Need-compact-requires
 compact-requires c κs = search needs
 
 written-requires : tie.Need-written-requires
-written-requires c κs = λ k e. omega (arith, compact-small (now (c .before .before .before .before .before .before .args .message)) (now (c .before .before .before .before .before .before .args .out)) k (sym (ap (λ (d : Done ℕ). d .answer) (c .before .before .compact .ensures)) ∙ e))
+written-requires c κs = (λ k e. omega (arith, compact-small (now (c .before .before .before .before .before .before .args .message)) (now (c .before .before .before .before .before .before .args .out)) k (sym (ap (λ (d : Done ℕ). d .answer) (c .before .before .compact .ensures)) ∙ e)), λ k at e. omega (arith, compact-places-within (now (c .before .before .before .before .before .before .args .message)) (now (c .before .before .before .before .before .before .args .out)) k at (sym (ap (λ (d : Done ℕ). d .answer) (c .before .before .compact .ensures)) ∙ e)))
 
 same-length : tie.Need-same-length
 same-length c = search needs

@@ -1,6 +1,8 @@
 use Rattle.llachurep.proofs.Gives.{valued, find-refused, find-given}
 use Rattle.finding.specs.Told.{locatedTold}
 use Rattle.llachurep.specs.Boundary.{given}
+use Rattle.finding.proofs.Places.{find-places-within}
+use native.Mathlib.Omega.{arith}
 use denote.Ref.{now}
 use mathlib.Core.Path.{sym, _∙_, ap}
 use borrow.Author.Needs.{needs}
@@ -26,7 +28,7 @@ enum-known-n : tie.Need-enum-known-n
 enum-known-n c = search needs
 
 refusal-requires : tie.Need-refusal-requires
-refusal-requires c κs = search needs
+refusal-requires c κs = let a = c .before .before .before .before .before .before .before .args in omega (arith, find-places-within (now (a .message)) (now (a .defaults)) (a .name) _ _ (sym (c .before .before .before .locate .ensures) ∙ ap locatedTold (c .before .n .given .1)))
 
 same-length : tie.Need-same-length
 same-length c = search needs

@@ -7,6 +7,7 @@ use Rattle.octets.specs.Filled.{Done}
 use Rattle.llachurep.specs.Boundary.{givenBy}
 use Rattle.llachurep.proofs.Gives.{valued}
 use Rattle.llachurep.proofs.Small.{number-small}
+use Rattle.llachurep.proofs.Places.{number-write-place}
 use Rattle.llachurep.proofs.llachurep_number_write.Statement.{statement}
 use Rattle.llachurep.proofs.llachurep_number_write.Tie as tie
 
@@ -14,7 +15,7 @@ write-number-requires : tie.Need-write-number-requires
 write-number-requires c κs = search needs
 
 written-requires : tie.Need-written-requires
-written-requires c κs = λ k e. omega (arith, number-small (c .before .before .before .before .before .before .args .nature) (c .before .before .before .before .before .before .args .plan) (c .before .before .before .before .before .before .args .internal) (now (c .before .before .before .before .before .before .args .signals)) (now (c .before .before .before .before .before .before .args .out)) k (sym (ap (λ (d : Done ℕ). d .answer) (c .before .before .write-number .ensures)) ∙ e))
+written-requires c κs = (λ k e. omega (arith, number-small (c .before .before .before .before .before .before .args .nature) (c .before .before .before .before .before .before .args .plan) (c .before .before .before .before .before .before .args .internal) (now (c .before .before .before .before .before .before .args .signals)) (now (c .before .before .before .before .before .before .args .out)) k (sym (ap (λ (d : Done ℕ). d .answer) (c .before .before .write-number .ensures)) ∙ e)), λ k at e. omega (arith, number-write-place (c .before .before .before .before .before .before .args .nature) (c .before .before .before .before .before .before .args .plan) (c .before .before .before .before .before .before .args .internal) (now (c .before .before .before .before .before .before .args .signals)) (now (c .before .before .before .before .before .before .args .out)) k at (sym (ap (λ (d : Done ℕ). d .answer) (c .before .before .write-number .ensures)) ∙ e)))
 
 same-length : tie.Need-same-length
 same-length c = search needs

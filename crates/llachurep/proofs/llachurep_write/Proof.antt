@@ -1,6 +1,7 @@
 use Rattle.llachurep.proofs.Gives.{valued}
 use Rattle.octets.specs.Filled.{Done}
 use Rattle.llachurep.proofs.Small.{write-small}
+use Rattle.llachurep.proofs.Places.{write-place}
 use Rattle.llachurep.specs.Boundary.{givenBy}
 use native.Mathlib.Omega.{arith}
 use denote.Ref.{now}
@@ -14,7 +15,7 @@ write-requires : tie.Need-write-requires
 write-requires c κs = search needs
 
 written-requires : tie.Need-written-requires
-written-requires c κs = λ k e. omega (arith, write-small (c .before .before .before .before .before .before .before .before .before .args .circuit) (c .before .before .before .before .before .before .before .before .before .args .kind) (now (c .before .before .before .before .before .before .before .before .before .args .fixed)) (now (c .before .before .before .before .before .before .before .before .before .args .first)) (now (c .before .before .before .before .before .before .before .before .before .args .second)) (now (c .before .before .before .before .before .before .before .before .before .args .optional)) (now (c .before .before .before .before .before .before .before .before .before .args .out)) k (sym (ap (λ (d : Done ℕ). d .answer) (c .before .before .write .ensures)) ∙ e))
+written-requires c κs = (λ k e. omega (arith, write-small (c .before .before .before .before .before .before .before .before .before .args .circuit) (c .before .before .before .before .before .before .before .before .before .args .kind) (now (c .before .before .before .before .before .before .before .before .before .args .fixed)) (now (c .before .before .before .before .before .before .before .before .before .args .first)) (now (c .before .before .before .before .before .before .before .before .before .args .second)) (now (c .before .before .before .before .before .before .before .before .before .args .optional)) (now (c .before .before .before .before .before .before .before .before .before .args .out)) k (sym (ap (λ (d : Done ℕ). d .answer) (c .before .before .write .ensures)) ∙ e)), λ k at e. omega (arith, write-place (c .before .before .before .before .before .before .before .before .before .args .circuit) (c .before .before .before .before .before .before .before .before .before .args .kind) (now (c .before .before .before .before .before .before .before .before .before .args .fixed)) (now (c .before .before .before .before .before .before .before .before .before .args .first)) (now (c .before .before .before .before .before .before .before .before .before .args .second)) (now (c .before .before .before .before .before .before .before .before .before .args .optional)) (now (c .before .before .before .before .before .before .before .before .before .args .out)) k at (sym (ap (λ (d : Done ℕ). d .answer) (c .before .before .write .ensures)) ∙ e)))
 
 same-length : tie.Need-same-length
 same-length c = search needs

@@ -11,13 +11,13 @@ enum-known-answer : tie.Need-enum-known-answer
 enum-known-answer c = search needs
 
 cast-result : tie.Need-cast-result
-cast-result c = omega (arith, c .before .before .before .pre _ (ap writtenTold (c .before .answer .given .1)))
+cast-result c = omega (arith, c .before .before .before .pre .0 _ (ap writtenTold (c .before .answer .given .1)))
 
 enum-known-answer-2 : tie.Need-enum-known-answer-2
 enum-known-answer-2 c = search needs
 
 refusal-requires : tie.Need-refusal-requires
-refusal-requires c κs = search needs
+refusal-requires c κs = omega (arith, c .before .before .before .pre .1 _ _ (ap writtenTold (c .before .answer2 .given .1)))
 
 returns : tie.Need-returns
 returns c = ap (λ (x : Written). packed (writtenTold x)) (sym (c .before .answer .given .1))

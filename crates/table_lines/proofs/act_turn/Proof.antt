@@ -1,5 +1,7 @@
-use mathlib.Core.Path.{_∙_, ap}
+use mathlib.Core.Path.{sym, _∙_, ap}
+use native.Mathlib.Omega.{arith}
 use denote.Ref.{now}
+use Rattle.hub.proofs.Places.{act-places-within}
 use Rattle.hub.specs.Acts.{After}
 use Rattle.hub.specs.Tables.{tables}
 use Rattle.printing.specs.Sheet.{sheet, pour}
@@ -41,7 +43,7 @@ act-requires : tie.Need-act-requires
 act-requires c κs = search needs
 
 say-acted-requires : tie.Need-say-acted-requires
-say-acted-requires c κs = search needs
+say-acted-requires c κs = λ n at e. omega (arith, act-places-within _ _ _ _ n at (sym (ap (λ (x : After). x .answer) (c .before .before .before .before .before .before .act .ensures)) ∙ e))
 
 same-length : tie.Need-same-length
 same-length c = search needs

@@ -2,6 +2,7 @@ use Rattle.octets.specs.Told.{writtenTold}
 use Rattle.octets.specs.declared.Written.{Written}
 use Rattle.printing.specs.Sheet.{sheet, pour}
 use Rattle.table_lines.specs.Tables.{replyLine}
+use native.Mathlib.Omega.{arith}
 use denote.Ref.{now}
 use mathlib.Core.Path.{sym, _∙_, ap}
 use borrow.Author.Needs.{needs}
@@ -23,8 +24,11 @@ put-shown-requires c κs = search needs
 enum-known-acted-2 : tie.Need-enum-known-acted-2
 enum-known-acted-2 c = search needs
 
-say-refusal-requires : tie.Need-say-refusal-requires
-say-refusal-requires c κs = search needs
+cast-say-fault : tie.Need-cast-say-fault
+cast-say-fault c = omega (arith, c .before .before .before .before .before .pre _ _ (ap writtenTold (c .before .acted2 .given .1)))
+
+say-fault-requires : tie.Need-say-fault-requires
+say-fault-requires c κs = search needs
 
 same-length : tie.Need-same-length
 same-length c = search needs
@@ -38,7 +42,7 @@ same-length-2 c = search needs
 
 returns-2 : tie.Need-returns-2
 unfolding replyLine
-returns-2 c = (c .before .before .say-refusal .ensures) ∙ ap (λ (x : Written). pour (sheet (now (c .before .before .before .before .before .before .before .before .before .args .out)) 0) (replyLine (writtenTold x) (now (c .before .before .before .before .before .before .before .before .before .args .buffer)))) (sym (c .before .before .before .before .before .acted2 .given .1))
+returns-2 c = (c .before .before .say-fault .ensures) ∙ ap (λ (x : Written). pour (sheet (now (c .before .before .before .before .before .before .before .before .before .args .out)) 0) (replyLine (writtenTold x) (now (c .before .before .before .before .before .before .before .before .before .args .buffer)))) (sym (c .before .before .before .before .before .acted2 .given .1))
 
 pub say-acted-spec : {M : Type 1} → statement M
 say-acted-spec =
@@ -49,7 +53,8 @@ say-acted-spec =
     stretch-requires
     put-shown-requires
     enum-known-acted-2
-    say-refusal-requires
+    cast-say-fault
+    say-fault-requires
     same-length
     returns
     same-length-2
