@@ -69,6 +69,14 @@ static int message(const char *name)
         length = sizeof cgb;
         for (unsigned i = 0; i < 32; i++)
             put(91 * i + 0x35);
+    } else if (strcmp(name, "cpg") == 0) {
+        static const uint8_t cpg[] = {0x01, 0x00, 0x2C, 0x02, 0x00};
+        memcpy(m, cpg, sizeof cpg);
+        length = sizeof cpg;
+    } else if (strcmp(name, "unknown") == 0) {
+        static const uint8_t unknown[] = {0x05, 0x00, 0xFF, 0x01, 0x01, 0x03};
+        memcpy(m, unknown, sizeof unknown);
+        length = sizeof unknown;
     } else {
         return 0;
     }
@@ -87,13 +95,15 @@ int main(int count, char **words)
     for (const char *c = words[4]; *c; c++)
         calls = 10 * calls + (unsigned)(*c - '0');
 
-    uint16_t parts[10] = {0}, parts_of_plain[10];
+    uint16_t parts[10] = {0}, parts_of_plain[10] = {0};
     uint8_t out[268] = {0}, out_of_plain[268] = {0};
     size_t stretch[2] = {0}, stretch_of_plain[2];
     static uint8_t states_of_plain[4096];
     memset(owners, 7, sizeof owners);
-    if (llachurep_read(m, length, parts, 10) != 10 || plain_read(m, length, parts_of_plain, 10) != 10 ||
-        memcmp(parts, parts_of_plain, sizeof parts) != 0)
+    uint32_t reading_answer = llachurep_read(m, length, parts, 10);
+    if (plain_read(m, length, parts_of_plain, 10) != reading_answer || memcmp(parts, parts_of_plain, sizeof parts) != 0)
+        return 1;
+    if ((reading_answer != 10) != (strcmp(words[2], "unknown") == 0)) /* the one message that is refused */
         return 1;
 
     if (strcmp(function, "read") == 0) {

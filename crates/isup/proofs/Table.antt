@@ -1,5 +1,5 @@
--- The table counted: exactly 24 octets are types, and these are they.
-use Prim.Native.Nat.{ℕ, _≤_}
+-- The table counted: exactly 24 octets are types, and these are they. The look-up table of 256 says the same.
+use Prim.Native.Nat.{ℕ, _≤_, _<_}
 use mathlib.Core.Path.{_≡_, refl}
 use mathlib.Core.Bool.{Bool, true, false}
 use mathlib.Core.List.{List, [], _∷_, _++_}
@@ -9,12 +9,15 @@ use lib.Dec.{ltb}
 use lib.ListN.{length}
 use Rattle.octets.specs.Choice.{if_then_else_}
 use Rattle.octets.specs.Among.{among, OneOf}
+use Rattle.octets.specs.Octet.{octet}
 use Rattle.octets.proofs.Among.{among-one, one-among}
 use Rattle.octets.proofs.Choice.{chosen}
 use Rattle.layout.specs.declared.Shape.{Shape}
 use Rattle.layout.specs.declared.Row.{Row}
 use Rattle.layout.specs.declared.Row.the-variants.{Has, Unknown}
 use Rattle.layout.specs.Faults.{NoRow}
+use Rattle.layout.specs.Packed.{unpackedOf}
+use Rattle.layout.proofs.Packed.{tableOf, table-rows}
 use Rattle.isup.specs.Table.{table, look, shapeOf}
 
 -- the types of document 01's table, row by row
@@ -159,3 +162,7 @@ three-exactly t = (
     go : (r : Row) → shapeOf t ≡ r → (OneOf t typeOctets → ⊥) → NoRow (shapeOf t)
     go Unknown e h = inl e
     go (Has s) e h = absurd (h (types-exactly t .0 (s, e)))
+
+-- the look-up table says what the rows of document 01 say, at each of the 256 octets; the proof of `shape_of` computes that it is the code's
+pub table-says : (k : ℕ) → k < 256 → unpackedOf (octet (tableOf shapeOf) k) ≡ shapeOf k
+table-says = table-rows shapeOf (λ t s e. omega (arith, table-two t s e))

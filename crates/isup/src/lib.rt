@@ -13,9 +13,11 @@ ghost use Rattle.isup.specs.Told.{readingTold};
 use layout::Body;
 use layout::Parts;
 use layout::Row;
-use layout::Shape;
 use layout::Span;
 use octets::Written;
+use shapes::SHAPES;
+
+mod shapes;
 
 // A message has so many octets at the most.
 pub const LONGEST: usize = 268;
@@ -23,24 +25,10 @@ pub const LONGEST: usize = 268;
 // Circuits are numbered from 0 to this one.
 pub const LAST_CIRCUIT: u32 = 4095;
 
-// The types of the table.
+// The types that the hub acts on or answers with.
 pub const IAM: u8 = 0x01;
 
-pub const SAM: u8 = 0x02;
-
-pub const COT: u8 = 0x05;
-
-pub const ACM: u8 = 0x06;
-
-pub const CON: u8 = 0x07;
-
-pub const ANM: u8 = 0x09;
-
 pub const REL: u8 = 0x0C;
-
-pub const SUS: u8 = 0x0D;
-
-pub const RES: u8 = 0x0E;
 
 pub const RLC: u8 = 0x10;
 
@@ -66,12 +54,6 @@ pub const CGUA: u8 = 0x1B;
 
 pub const GRA: u8 = 0x29;
 
-pub const CQM: u8 = 0x2A;
-
-pub const CQR: u8 = 0x2B;
-
-pub const CPG: u8 = 0x2C;
-
 // A message that is well formed: its circuit, its type, and where its parts stand. ISUP has no third variable part.
 pub struct Message {
     pub circuit: u16,
@@ -85,44 +67,11 @@ pub enum Reading {
     Refused(u8, usize),
 }
 
-// What the table says of a type octet: its shape row, or that it is not in the table. One answer for each of the 256.
+// What the table says of a type octet: its shape row, or that it is not in the table. One answer for each of the 256, by one look-up.
 pub fn shape_of(kind: u8) -> Row
     ensures { λ r. ⌜ r ≡ shapeOf kind ⌝ }
 {
-    match kind {
-        IAM => has(5, 1, true),
-        SAM => has(0, 1, true),
-        COT => has(1, 0, false),
-        ACM => has(2, 0, true),
-        CON => has(2, 0, true),
-        ANM => has(0, 0, true),
-        REL => has(0, 1, true),
-        SUS => has(1, 0, true),
-        RES => has(1, 0, true),
-        RLC => has(0, 0, true),
-        RSC => has(0, 0, false),
-        BLO => has(0, 0, false),
-        UBL => has(0, 0, false),
-        BLA => has(0, 0, false),
-        UBA => has(0, 0, false),
-        GRS => has(0, 1, false),
-        CGB => has(1, 1, false),
-        CGU => has(1, 1, false),
-        CGBA => has(1, 1, false),
-        CGUA => has(1, 1, false),
-        GRA => has(0, 1, false),
-        CQM => has(0, 1, false),
-        CQR => has(0, 2, false),
-        CPG => has(1, 0, true),
-        _ => Row::Unknown,
-    }
-}
-
-// A row of the table.
-fn has(fixed: u8, vars: u8, opt: bool) -> Row
-    ensures { λ r. ⌜ r ≡ Row.Has (record { fixed = fixed; vars = vars; opt = opt }) ⌝ }
-{
-    Row::Has(Shape { fixed, vars, opt })
+    layout::row_of(SHAPES[kind as usize])
 }
 
 // The circuit number: low eight bits first, high four bits in the low half of octet 1.

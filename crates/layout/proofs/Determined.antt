@@ -7,6 +7,7 @@ use Rattle.layout.specs.declared.Row.{Row}
 use Rattle.layout.specs.declared.Body.{Body}
 use Rattle.layout.specs.declared.Body.the-variants.{Laid, Broken}
 use Rattle.layout.specs.Container.{kindAt, partsOf}
+use Rattle.layout.specs.Packed.{unpackedOf}
 use Rattle.layout.specs.Told.{bodyTold}
 
 -- each case of an answer says something else
@@ -21,3 +22,6 @@ read-parts-determined m w most row r s p q = body-told-injective r s (one-answer
 
 pub kind-at-determined : (m : List ℕ) (w r s : ℕ) → r ≡ kindAt m w → s ≡ kindAt m w → r ≡ s
 kind-at-determined m w r s = one-answer
+
+pub row-of-determined : (packed : ℕ) (r s : Row) → r ≡ unpackedOf packed → s ≡ unpackedOf packed → r ≡ s
+row-of-determined packed r s = one-answer

@@ -7,3 +7,4 @@ pub mod Gaps
 pub mod Header
 pub mod Determined
 pub mod Refutations
+pub mod Packed

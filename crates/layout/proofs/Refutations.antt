@@ -7,6 +7,7 @@ use Rattle.runs.specs.Run.{stepAt, stops, stopFrom}
 use Rattle.layout.specs.declared.Shape.{Shape}
 use Rattle.layout.specs.declared.Row.the-variants.{Has}
 use Rattle.layout.specs.Container.{runFrom, variableAt, optionalAt, variableSlot, optionalSlot, sharesOf, judged, held, containerOf, partsOf}
+use Rattle.layout.specs.Packed.{packedOf, unpackedOf}
 
 -- a row of four variable parts: a reader that looks at three pointers takes this message, whose fourth pointer is 0
 abbrev pub four : Shape
@@ -15,6 +16,11 @@ four = record { fixed = 0; vars = 4; opt = false }
 pub four-unread : partsOf (1 ∷ 4 ∷ 4 ∷ 4 ∷ 0 ∷ 0 ∷ 0 ∷ 0 ∷ []) 0 268 (Has four) ≡ refused 3 0
 unfolding stepAt stops stopFrom runFrom variableAt optionalAt variableSlot optionalSlot sharesOf judged held containerOf partsOf
 four-unread = refl
+
+-- nor can it be packed: unpacked, it is the row of one fixed octet
+pub four-lost : unpackedOf (packedOf (Has four)) ≡ Has (record { fixed = 1; vars = 0; opt = false })
+unfolding unpackedOf
+four-lost = refl
 
 -- two variable parts and an optional part: the second and the optional one share octet 6, and a check that misses this pair takes the message
 abbrev pub two : Shape

@@ -5,3 +5,4 @@ pub mod Laid
 pub mod Faults
 pub mod Places
 pub mod Gaps
+pub mod Packed

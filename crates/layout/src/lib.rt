@@ -5,6 +5,7 @@ ghost use Prim.Native.Nat.{_+_, _≤_, _<_};
 ghost use lib.ListN.{length};
 ghost use Rattle.layout.specs.Container.{kindAt, runFrom, pointed, variableFrom, variableAt, optionalAt, variableSlot, optionalSlot, endOf, sharesOf, later, contentsOf, runOf, judged, containerOf, partsOf};
 ghost use Rattle.layout.specs.Told.{targetTold, slotTold, bodyTold};
+ghost use Rattle.layout.specs.Packed.{unpackedOf};
 use runs::Stop;
 
 // Octets from `from` up to and not including `to`. 0..0 stands for a part that is not there.
@@ -267,6 +268,22 @@ fn container(octets: &[u8], width: u8, shape: Shape) -> Body
                 },
             },
         },
+    }
+}
+
+// The row that a packed one says: 16 for each fixed octet, 4 for each variable parameter, 2 for an optional part, and 1; 0 for a type that is not in the table.
+pub fn row_of(packed: u8) -> Row
+    ensures { λ r. ⌜ r ≡ unpackedOf packed ⌝ }
+{
+    let shape = Shape {
+        fixed: packed / 16,
+        vars: packed / 4 % 4,
+        opt: packed / 2 % 2 == 1,
+    };
+    if packed % 2 == 0 {
+        Row::Unknown
+    } else {
+        Row::Has(shape)
     }
 }
 

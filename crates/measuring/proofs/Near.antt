@@ -9,7 +9,7 @@ use lib.Dec.{ltb}
 use Rattle.octets.specs.Choice.{if_then_else_}
 use Rattle.octets.proofs.Choice.{decided}
 use Rattle.layout.specs.declared.Shape.{Shape}
-use Rattle.layout.specs.Container.{bit}
+use Rattle.layout.proofs.Packed.{bit-small}
 use Rattle.measuring.specs.declared.Lengths.{Lengths}
 use Rattle.measuring.specs.declared.Pointers.{Pointers}
 use Rattle.measuring.specs.Measure.{countOf, gap, beyondOf, tooLong, tooFar}
@@ -29,10 +29,6 @@ not-beyond false p h e = absurd (let z : _≡_ {A = ℕ} 0 1 = cc in omega arith
 
 count-small : (n : ℕ) → countOf n ≤ 3
 count-small n = ⊎-elim (λ t. rw t (omega (arith, ltb-true))) (λ f. rw f (omega arith)) (decided (ltb n 3))
-
-bit-small : (o : Bool) → bit o ≤ 1
-bit-small true = omega arith
-bit-small false = omega arith
 
 pub gap-small : (s : Shape) → gap s ≤ 4
 gap-small s = omega (arith, count-small (s .vars), bit-small (s .opt))

@@ -11,3 +11,4 @@ pub mod Applied
 pub mod Among
 pub mod Told
 pub mod Parity
+pub mod Tabulate
