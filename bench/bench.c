@@ -69,6 +69,10 @@ static int message(const char *name)
         length = sizeof cgb;
         for (unsigned i = 0; i < 32; i++)
             put(91 * i + 0x35);
+    } else if (strcmp(name, "cqm") == 0) {
+        static const uint8_t cqm[] = {0x00, 0x00, 0x2A, 0x01, 0x01, 0x1F};
+        memcpy(m, cqm, sizeof cqm);
+        length = sizeof cqm;
     } else if (strcmp(name, "cpg") == 0) {
         static const uint8_t cpg[] = {0x01, 0x00, 0x2C, 0x02, 0x00};
         memcpy(m, cpg, sizeof cpg);

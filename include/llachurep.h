@@ -116,8 +116,10 @@ uint32_t llachurep_number_write(uint32_t nature, uint32_t plan, uint32_t interna
                                 size_t signals_length, uint8_t *out, size_t out_length);
 
 /* Applies a message of that sender to the table: one state octet and one ownership octet for each of 4096 circuits.
- * Accepted: v is how many octets the answer has (0 for an IAM), at the front of answer, and the states of the circuits
- * that the message names become what its rule says; all other states and the rest of answer stay.
+ * Accepted: v is how many octets the answer has (0 for an IAM, 40 at the most), at the front of answer, and the states
+ * of the circuits that the message names become what its rule says; all other states and the rest of answer stay. A
+ * circuit query (CQM) changes no state and is answered by CQR, with an octet for each circuit: 0C idle, 04 busy, 02 more
+ * where it is blocked for maintenance, 20 more where it is blocked for hardware.
  * Refused: 16; as llachurep_read, but for its 13; 17, 14, 18, 19, 20, 21, 13. */
 uint32_t llachurep_act(uint8_t *states, size_t states_length, const uint8_t *owners, size_t owners_length,
                        uint32_t sender, const uint8_t *message, size_t length, uint8_t *answer, size_t answer_length);

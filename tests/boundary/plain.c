@@ -352,6 +352,12 @@ static int legal(unsigned state)
     return state <= 4 || state == 6;
 }
 
+/* Idle 0C, busy 04; a remote maintenance block adds 02, a remote hardware block 20. */
+static uint8_t circuit_state(unsigned state)
+{
+    return (uint8_t)((state & BUSY ? 0x04 : 0x0C) + (state & MAINTENANCE ? 0x02 : 0) + (state & HARDWARE ? 0x20 : 0));
+}
+
 /* 16, the reader's, 17, 14, 18, 19, 20, 21, 13. */
 uint32_t plain_act(uint8_t *states, size_t states_length, const uint8_t *owners, size_t owners_length, uint32_t sender,
                    const uint8_t *message, size_t length, uint8_t *answer, size_t room)
@@ -383,6 +389,12 @@ uint32_t plain_act(uint8_t *states, size_t states_length, const uint8_t *owners,
             return refusal(14);
         range = contents[0];
         need = 6 + range / 8 + 1;
+        break;
+    case CQM:
+        if (size != 1 || contents[0] > 31)
+            return refusal(14);
+        range = contents[0];
+        need = 9 + range;
         break;
     case CGB:
     case CGU:
@@ -446,6 +458,16 @@ uint32_t plain_act(uint8_t *states, size_t states_length, const uint8_t *owners,
         answer[5] = (uint8_t)range;
         memset(answer + 6, 0, range / 8 + 1);
         memset(row, 0, range + 1);
+        break;
+    case CQM:
+        answer[2] = CQR;
+        answer[3] = 2;
+        answer[4] = 3;
+        answer[5] = 1;
+        answer[6] = (uint8_t)range;
+        answer[7] = (uint8_t)(range + 1);
+        for (unsigned n = 0; n <= range; n++)
+            answer[8 + n] = circuit_state(row[n]);
         break;
     case CGB:
     case CGU: {

@@ -320,7 +320,7 @@ static void ready_tables(void)
 static unsigned reach(const uint8_t *message)
 {
     unsigned type = message[2];
-    if (type == 0x17)
+    if (type == 0x17 || type == 0x2A)
         return message[3 + message[3] + 1];
     if (type == 0x18 || type == 0x19)
         return message[4 + message[4] + 1];
@@ -790,6 +790,10 @@ static void act_cases(void)
     acts("05 00 17 01 01 08", 1, "05 00 29 01 03 08 00 00", 13, 0);
     acts("05 00 17 01 01 1f", 1, "05 00 29 01 05 1f 00 00 00 00", 36, 0);
     acts("E0 0F 17 01 01 1F", 4, "e0 0f 29 01 05 1f 00 00 00 00", 4095, 0);
+    acts("05 00 2A 01 01 03", 0, "05 00 2b 02 03 01 03 04 0c 0c 0c 0c", 8, 0);
+    acts("05 00 2A 01 01 01", 1, "05 00 2b 02 03 01 01 02 04 04", 6, 1);
+    acts("05 00 2A 01 01 00", 3, "05 00 2b 02 03 01 00 01 06", 5, 3);
+    acts("ff 0f 2A 01 01 00", 6, "ff 0f 2b 02 03 01 00 01 2e", 4095, 6);
     acts("23 01 13", 0, "23 01 15", 291, 2);
     acts("23 f1 13", 4, "23 01 15", 291, 6);
     acts("ff 0f 14", 3, "ff 0f 16", 4095, 1);
@@ -810,7 +814,12 @@ static void act_cases(void)
     table(7, 0, 4096, 7, 0);
     act_refused("01 00 10 00", 7, 17);
     act_refused("01 00 15", 0, 17);
-    act_refused("01 00 2A 01 01 03", 7, 17);
+    act_refused("01 00 2B 02 02 00 00", 7, 17);
+    act_refused("05 00 2A 01 01 20", 7, 14);
+    act_refused("05 00 2A 01 02 03 00", 7, 14);
+    act_refused("05 00 2A 01 00", 7, 14);
+    act_refused("FF 0F 2A 01 01 01", 7, 18);
+    act_refused("05 00 2A 01 01 03", 8, 19);
     act_refused("05 00 17 01 01 00", 7, 14);
     act_refused("05 00 17 01 01 20", 7, 14);
     act_refused("05 00 17 01 02 03 00", 7, 14);
@@ -863,7 +872,7 @@ static void act_cases(void)
 
 static const uint8_t types[24] = {0x01, 0x02, 0x05, 0x06, 0x07, 0x09, 0x0C, 0x0D, 0x0E, 0x10, 0x12, 0x13,
                                   0x14, 0x15, 0x16, 0x17, 0x18, 0x19, 0x1A, 0x1B, 0x29, 0x2A, 0x2B, 0x2C};
-static const uint8_t acted[8] = {0x01, 0x0C, 0x12, 0x13, 0x14, 0x17, 0x18, 0x19};
+static const uint8_t acted[9] = {0x01, 0x0C, 0x12, 0x13, 0x14, 0x17, 0x18, 0x19, 0x2A};
 static const uint8_t parameter_names[8] = {0x01, 0x03, 0x20, 0x20, 0x20, 0x80, 0xFF, 0x01};
 static const uint8_t owners_of_zones[8] = {1, 2, 3, 7, 200, 255, 0, 7};
 static const uint8_t legal_states[6] = {0, 1, 2, 3, 4, 6};
@@ -909,7 +918,7 @@ static void some_parts(struct given *w)
 {
     size_t fixed, variable;
     int optional;
-    w->type = one_in(4) ? types[below(24)] : acted[below(8)];
+    w->type = one_in(4) ? types[below(24)] : acted[below(9)];
     w->circuit = one_in(4) ? between(3830, 4095) : one_in(3) ? below(64) : below(4096);
     shape_of(w->type, &fixed, &variable, &optional);
     w->fixed_length = fixed;
@@ -918,9 +927,9 @@ static void some_parts(struct given *w)
         w->fixed[0] &= 0xFD;
     w->first_length = w->second_length = w->optional_length = 0;
     if (variable > 0) {
-        if (w->type == 0x17) {
+        if (w->type == 0x17 || w->type == 0x2A) {
             w->first_length = one_in(20) ? below(4) : 1;
-            w->first[0] = (uint8_t)(one_in(12) ? below(256) : between(1, 31));
+            w->first[0] = (uint8_t)(one_in(12) ? below(256) : between(w->type == 0x17, 31));
             w->first[1] = w->first[2] = 0;
         } else if (w->type == 0x18 || w->type == 0x19) {
             unsigned range = one_in(3) ? between(1, 255) : one_in(30) ? 0 : between(1, 40);
@@ -1131,7 +1140,8 @@ static void generated(void)
 
         uint32_t owner = length < 3 ? 1 : before_tables.owners[m[0] + 256u * (m[1] & 15u)];
         uint32_t sender = one_in(12) ? strange[below(6)] : one_in(30) ? owner + 256 : owner ? owner : 7;
-        size_t needed = length > 2 && m[2] >= 0x17 && m[2] <= 0x19 ? 7 + w.first_length : 4;
+        size_t needed = length > 2 && m[2] >= 0x17 && m[2] <= 0x19 ? 7 + w.first_length :
+                        length > 2 && m[2] == 0x2A ? 9u + w.first[0] : 4;
         if (one_in(200)) {
             states_length = between(4095, 4097);
             owners_length = between(4095, 4097);
@@ -1191,7 +1201,7 @@ static void reached(void)
         unsigned known = 0, acting = 0;
         for (int i = 0; i < 24; i++)
             known |= types[i] == type;
-        for (int i = 0; i < 8; i++)
+        for (int i = 0; i < 9; i++)
             acting |= acted[i] == type;
         checks++;
         if ((known != (types_read[type] > 1000) || acting != (types_acted[type] > 1000)) && failed("types"))

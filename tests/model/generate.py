@@ -11,7 +11,7 @@ from collections import Counter
 
 sys.dont_write_bytecode = True
 import model
-from model import SHAPES, IAM, REL, RSC, BLO, UBL, GRS, CGB, CGU
+from model import SHAPES, IAM, REL, RSC, BLO, UBL, GRS, CGB, CGU, CQM
 
 STORED_COUNT = 3000
 STORED_SEED = 763
@@ -24,7 +24,7 @@ WITH_POINTERS = [kind for kind in TYPES if SHAPES[kind].variable or SHAPES[kind]
 WITH_BOTH = [kind for kind in WITH_VARIABLE if SHAPES[kind].optional]
 NO_TYPES = [kind for kind in range(256) if kind not in SHAPES]
 NEAR_TYPES = [0x00, 0x03, 0x04, 0x08, 0x0A, 0x0B, 0x0F, 0x11, 0x1C, 0x28, 0x2D, 0x81, 0xFF]
-ACTED = [IAM, REL, RSC, BLO, UBL, GRS, CGB, CGU]
+ACTED = [IAM, REL, RSC, BLO, UBL, GRS, CGB, CGU, CQM]
 OTHERS = [kind for kind in TYPES if kind not in ACTED]
 CQR = 0x2B
 NAMES = [0x01, 0x03, 0x0A, 0x20, 0x31, 0x80, 0xFF]
@@ -571,7 +571,7 @@ class Generator:
         fixed = self.octets(row.fixed)
         contents = [self.octets(self.between(0, 6)) for _ in range(row.variable)]
         run = self.run(2) if row.optional and self.chance(0.5) else None
-        if kind == GRS:
+        if kind in (GRS, CQM):
             contents = [bytes([r])]
         elif kind in (CGB, CGU):
             fixed = bytes([self.between(0, 1) + (4 * self.between(0, 63) if self.chance(0.4) else 0)])
@@ -596,6 +596,8 @@ class Generator:
     def reach(self, kind):
         if kind == GRS:
             return self.pick([1, 1, 2, 3, 7, 8, 9, 15, 16, 30, 31, 31, self.between(1, 31)])
+        if kind == CQM:
+            return self.pick([0, 0, 1, 2, 3, 7, 8, 15, 16, 30, 31, 31, self.between(0, 31)])
         return self.pick([1, 1, 2, 3, 7, 8, 9, 15, 16, 23, 31, 32, 64, 254, 255, 255,
                           self.between(1, 40), self.between(1, 255)])
 
@@ -610,7 +612,8 @@ class Generator:
 
     def need(self, kind, r):
         """How many octets the hub answers."""
-        return {IAM: 0, REL: 4, RSC: 4, BLO: 3, UBL: 3, GRS: 7 + r // 8, CGB: 8 + r // 8, CGU: 8 + r // 8}[kind]
+        return {IAM: 0, REL: 4, RSC: 4, BLO: 3, UBL: 3, GRS: 7 + r // 8, CGB: 8 + r // 8, CGU: 8 + r // 8,
+                CQM: 9 + r}[kind]
 
     def prepare(self, m, r, sender):
         """Lines that give m to m+r to the sender, in legal states."""
@@ -628,7 +631,7 @@ class Generator:
         return [spot for spot in [m, m, middle, last, last, m - 1, last + 1] if 0 <= spot <= 4095]
 
     def group(self):
-        kind = self.pick([GRS, CGB, CGB, CGU])
+        kind = self.pick([GRS, CGB, CGB, CGU, CQM])
         r = self.reach(kind)
         m = self.weighted([(5, self.between(0, 4095 - r)), (2, 4095 - r), (1, 0)])
         last = m + r
@@ -658,7 +661,7 @@ class Generator:
         made.append(self.line("act", asker, make(kind, start, r), room))
         made.append(self.rows(start - 1, start + r + 1))
         for _ in range(self.pick([0, 0, 1, 2])):
-            kind = self.pick([CGB, CGB, CGU, CGU, GRS] if r < 32 else [CGB, CGU])
+            kind = self.pick([CQM] if r == 0 else [CGB, CGB, CGU, CGU, GRS, CQM] if r < 32 else [CGB, CGU])
             made.append(self.line("act", sender, self.asking(kind, m, r), self.room(self.need(kind, r))))
             made.append(self.rows(m - 1, last + 1))
         return made
@@ -666,7 +669,7 @@ class Generator:
     def broken(self, kind, m, r):
         """Typed contents that break their rule, or nearly."""
         fixed = b""
-        if kind == GRS:
+        if kind in (GRS, CQM):
             contents = self.pick([bytes([0]), bytes([32]), bytes([31]), bytes([255]), b"", bytes([r, 0]),
                                   bytes([r]) + self.octets(r // 8 + 1), bytes([128 + r])])
         else:
@@ -723,7 +726,7 @@ class Generator:
             m, sender = self.owned()
             kind = self.pick(ACTED)
             r = 0
-            if kind in (GRS, CGB, CGU):
+            if kind in (GRS, CGB, CGU, CQM):
                 r = self.pick([1, 2, 3, 7, 8, self.between(1, 31), self.reach(kind)])
             if self.chance(0.08):
                 sender = self.pick([0, 1, 255, 256, TOP])
@@ -936,6 +939,19 @@ class Generator:
             made.append([b"own 700 703 9", b"set 700 703 0", b"set 701 701 %d" % state,
                          b"act 9 bd0201000000000002000100 9", b"act 9 bd0213 9", b"act 9 bc021701 9",
                          b"act 9 bc0217010103 9", b"rows 700 703"])
+
+        # A query over rows of every legal state, over one that is not legal, over the last circuits, and with too little room.
+        scene = [b"own 700 740 9"] + [b"set %d %d %d" % (700 + i, 700 + i, each) for i, each in enumerate((0, 1, 2, 3, 4, 6))]
+        for r in (0, 1, 4, 5, 31):
+            message = self.lay(CQM, 700, b"", [bytes([r])], None).hex().encode()
+            scene += [b"act 9 %s %d" % (message, room) for room in (0, 8 + r, 9 + r, 10 + r)]
+        made.append(scene + [b"set 703 703 5", b"act 9 bc022a010104 99", b"act 9 bc022a010102 99", b"rows 700 705",
+                             b"own 4090 4095 9", b"set 4090 4095 6", b"act 9 fa0f2a010105 99", b"act 9 fb0f2a010105 99"])
+        scene = [b"own 1000 1300 9", b"set 1000 1300 1"]
+        for contents in ("00", "20", "ff", "", "0000", "0200", "8f", "01", "1f"):
+            message = self.lay(CQM, 1000, b"", [bytes.fromhex(contents)], None)
+            scene.append(b"act 9 %s 99" % message.hex().encode())
+        made.append(scene + [b"rows 1000 1034"])
 
         # Typed contents of a GRS, and of a CGB: every indicator, ranges and status octets of right and wrong count.
         scene = [b"own 1000 1300 9", b"set 1000 1300 1"]

@@ -58,6 +58,7 @@ for _types, _fixed, _variable, _optional in (
 IAM, REL, RLC = 0x01, 0x0C, 0x10
 RSC, BLO, UBL, BLA, UBA = 0x12, 0x13, 0x14, 0x15, 0x16
 GRS, CGB, CGU, CGBA, CGUA, GRA = 0x17, 0x18, 0x19, 0x1A, 0x1B, 0x29
+CQM, CQR = 0x2A, 0x2B
 
 
 def shape(kind):
@@ -290,35 +291,53 @@ class Ask(NamedTuple):
     reach: int          # the range r; 0 for one circuit
     marks: tuple        # for each of m to m+r, whether the rule changes it
     rule: object        # the new state of a marked circuit, from the old one
-    answer: bytes
+    answer: object      # the answer, from the old states of m to m+r
 
 
-def plain(circuit, kind, fixed=b"", first=b""):
+def plain(circuit, kind, fixed=b"", first=b"", second=b""):
     """A message of an answer: it carries m and has the compact form."""
-    return write(circuit, kind, fixed, first, b"", b"", LONGEST)
+    return write(circuit, kind, fixed, first, second, b"", LONGEST)
+
+
+def always(answer):
+    """An answer that does not look at the states."""
+    return lambda states: answer
+
+
+def circuit_state(state):
+    """The circuit state octet of a query's answer: idle 0C, busy 04, remote maintenance block 02, remote hardware block 20."""
+    coded = 0x04 if state & BUSY else 0x0C
+    if state & MAINTENANCE:
+        coded += 0x02
+    if state & HARDWARE:
+        coded += 0x20
+    return coded
 
 
 def ask(message):
     """What a message asks of the circuits: 17, then 14."""
     m = message.circuit
     if message.kind == IAM:
-        return Ask(0, (True,), lambda state: BUSY, b"")
+        return Ask(0, (True,), lambda state: BUSY, always(b""))
     if message.kind == REL:
-        return Ask(0, (True,), lambda state: state & ~BUSY, plain(m, RLC))
+        return Ask(0, (True,), lambda state: state & ~BUSY, always(plain(m, RLC)))
     if message.kind == RSC:
-        return Ask(0, (True,), lambda state: 0, plain(m, RLC))
+        return Ask(0, (True,), lambda state: 0, always(plain(m, RLC)))
     if message.kind == BLO:
-        return Ask(0, (True,), lambda state: state | MAINTENANCE, plain(m, BLA))
+        return Ask(0, (True,), lambda state: state | MAINTENANCE, always(plain(m, BLA)))
     if message.kind == UBL:
-        return Ask(0, (True,), lambda state: state & ~MAINTENANCE, plain(m, UBA))
-    if message.kind == GRS:
+        return Ask(0, (True,), lambda state: state & ~MAINTENANCE, always(plain(m, UBA)))
+    if message.kind in (GRS, CQM):
         contents = message.variable[0]
-        # Range from 1 to 31, contents exactly r's octet.
-        if len(contents) != 1 or not 1 <= contents[0] <= 31:
+        # Range from 1 to 31, of a query from 0; contents exactly r's octet.
+        if len(contents) != 1 or not (1 if message.kind == GRS else 0) <= contents[0] <= 31:
             return 14
         r = contents[0]
+        if message.kind == CQM:
+            return Ask(r, (False,) * (r + 1), None, lambda states: plain(
+                m, CQR, first=bytes([r]), second=bytes(circuit_state(each) for each in states)))
         return Ask(r, (True,) * (r + 1), lambda state: 0,
-                   plain(m, GRA, first=bytes([r]) + bytes(r // 8 + 1)))
+                   always(plain(m, GRA, first=bytes([r]) + bytes(r // 8 + 1))))
     if message.kind in (CGB, CGU):
         kind = message.fixed[0] % 4                 # the other bits are spare
         contents = message.variable[0]
@@ -342,7 +361,7 @@ def ask(message):
             rule = (lambda state: state & ~MAINTENANCE) if kind == 0 else \
                    (lambda state: state & ~HARDWARE)
             reply = CGUA
-        return Ask(r, marks, rule, plain(m, reply, bytes([kind]), bytes([r]) + bytes(clean)))
+        return Ask(r, marks, rule, always(plain(m, reply, bytes([kind]), bytes([r]) + bytes(clean))))
     return 17
 
 
@@ -366,10 +385,11 @@ def act(states, owners, sender, message, room):
         return 20
     if got.kind == IAM and states[m] != 0:
         return 21
-    if len(asked.answer) > room:
+    answer = asked.answer([states[c] for c in named])
+    if len(answer) > room:
         return 13
     rows = bytes(asked.rule(states[c]) if asked.marks[c - m] else states[c] for c in named)
-    return asked.answer, rows
+    return answer, rows
 
 
 # ---------------------------------------------------------------- the fields of a line

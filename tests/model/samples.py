@@ -105,6 +105,23 @@ SAMPLES = [
     ("dial 3 1 0 010203 4", "octets 83102103"),
     ("dial 3 1 0 01020304 4", "octets 03102143"),
 
+    # CQM: circuits 5 to 8, idle, busy, blocked for maintenance and for both; CQR with the range, then a state for each.
+    ("set 6 6 1", "ok"),
+    ("set 7 7 2", "ok"),
+    ("set 8 8 6", "ok"),
+    ("act 1 05002A010103 12", "answer 05002b0203010304" + "0c040e2e"),
+    ("act 1 05002A010103 11", "refused 13"),
+    ("act 1 06002A010100 9", "answer 06002b020301000104"),
+    ("act 1 05002A010120 1024", "refused 14"),
+    ("act 1 05002A01020300 1024", "refused 14"),
+    ("act 1 05002A0100 1024", "refused 14"),
+    ("act 1 FF0F2A010101 1024", "refused 18"),
+    ("act 1 FF0F2A010100 1024", "answer ff0f2b02030100010c"),
+    ("act 2 05002A010103 1024", "refused 19"),
+    ("set 7 7 5", "ok"),
+    ("act 1 05002A010103 1024", "refused 20"),
+    ("rows 5 8", "rows 00010506"),
+
     # The tables as at the start.
     ("own 0 4095 0", "ok"),
     ("set 0 4095 0", "ok"),

@@ -5,10 +5,9 @@ use mathlib.Core.Bool.{Bool, true, false}
 use mathlib.Core.List.{List, [], _∷_}
 use mathlib.Core.Logic.{inl, inr, ⊎-elim}
 use native.Mathlib.Omega.{arith}
-use borrow.Author.Tests.{ltb-true, ltb-false, eqb-true, eqb-false, eq-eqb, ne-eqb, le-ltb}
+use borrow.Author.Tests.{ltb-true, ltb-false, eqb-false, eq-eqb, ne-eqb, le-ltb}
 use lib.Dec.{ltb, eqb}
-use Rattle.octets.specs.Choice.{if_then_else_}
-use Rattle.octets.specs.Answer.{Answer, _then_}
+use Rattle.octets.specs.Answer.{Answer}
 use Rattle.octets.specs.Faults.{Judges, fault}
 use Rattle.octets.specs.Among.{among, OneOf}
 use Rattle.octets.proofs.Choice.{decided, true-false}
@@ -22,35 +21,23 @@ use Rattle.isup.specs.Faults.{readerFaults}
 use Rattle.isup.proofs.Exactly.{read-exactly, well-formed-unique}
 use Rattle.isup.proofs.Judged.{read-judges}
 use Rattle.rows.specs.declared.Act.{Act}
-use Rattle.rows.specs.declared.Act.the-variants.{Seize, Release, Reset, Block, Unblock, ResetGroup, BlockGroup, UnblockGroup}
+use Rattle.rows.specs.declared.Act.the-variants.{Seize, Release, Reset, Block, Unblock, ResetGroup, BlockGroup, UnblockGroup, Query}
 use Rattle.asks.specs.declared.Ask.{Ask}
-use Rattle.isup.specs.Types.{IAM, REL, RSC, BLO, UBL, GRS, CGB, CGU}
+use Rattle.isup.specs.Types.{IAM, REL, RSC, BLO, UBL, GRS, CGB, CGU, CQM}
 use Rattle.asks.specs.Types.{acting, typeOf, actFor}
-use Rattle.asks.specs.Asks.{rangeIn, blockKind, brokenReset, brokenGroup, broken, indicatorIn, askIn, IsAsked, askedFor, askedIn, askOf}
-use Rattle.asks.specs.Faults.{Reads, NotActedOn, KeepsReset, KeepsGroup, BreaksRule, rangeGiven, GroupPasses, askFaults}
+use Rattle.asks.specs.Asks.{rangeIn, blockKind, brokenRange, brokenGroup, broken, indicatorIn, askIn, IsAsked, askedFor, askedIn, askOf}
+use Rattle.asks.specs.Faults.{Reads, NotActedOn, KeepsRange, KeepsGroup, BreaksRule, rangeGiven, GroupPasses, askFaults}
 use Rattle.asks.proofs.Types.{for-type, type-is, no-act, one-acting, acting-act}
-use Rattle.asks.proofs.Reading.{whole-group}
+use Rattle.asks.proofs.Reading.{range-rule, whole-group}
 
 -- ---- 14 is given where the contents break their rule, and only there
-pub reset-kept : (m : List ℕ) (x : Message) → brokenReset m (x .parts .first) ≡ false → KeepsReset m x
-unfolding brokenReset
-reset-kept m x e = go (eqb (spanSize (x .parts .first)) 1) (eqb (rangeIn m (x .parts .first)) 0) refl refl e
-  where
-    go : (s z : Bool) → eqb (spanSize (x .parts .first)) 1 ≡ s → eqb (rangeIn m (x .parts .first)) 0 ≡ z → (if s then (if z then true else ltb 31 (rangeIn m (x .parts .first))) else true) ≡ false → KeepsReset m x
-    go true true p q h = absurd (true-false {t = true} refl h)
-    go false z p q h = absurd (true-false {t = true} refl h)
-    go true false p q h =
-        let n = eqb-false (rangeIn m (x .parts .first)) 0 q in
-        let l = ltb-false 31 (rangeIn m (x .parts .first)) h in
-        record { exact = eqb-true _ _ p; least = positive (rangeIn m (x .parts .first)) n; most = l }
-      where
-        positive : (r : ℕ) → (r ≡ 0 → ⊥) → 1 ≤ r
-        positive r n = ⊎-elim (λ t. ltb-true 0 r t) (λ t. absurd (n (omega (arith, ltb-false 0 r t)))) (decided (ltb 0 r))
+pub range-kept : (least : ℕ) (m : List ℕ) (x : Message) → brokenRange least m (x .parts .first) ≡ false → KeepsRange least m x
+range-kept least m x e = let w = range-rule least m (x .parts .first) e in record { exact = w .0; above = w .1; most = w .2 }
 
-reset-broken : (m : List ℕ) (x : Message) → brokenReset m (x .parts .first) ≡ true → KeepsReset m x → ⊥
-unfolding brokenReset
-reset-broken m x e k =
-    true-false e (rw (eq-eqb _ _ (k .exact), ne-eqb (rangeIn m (x .parts .first)) 0 (λ z. omega (arith, k .least)), le-ltb 31 (rangeIn m (x .parts .first)) (k .most)))
+range-broken : (least : ℕ) (m : List ℕ) (x : Message) → brokenRange least m (x .parts .first) ≡ true → KeepsRange least m x → ⊥
+unfolding brokenRange
+range-broken least m x e k =
+    true-false e (rw (eq-eqb _ _ (k .exact), le-ltb (rangeIn m (x .parts .first)) least (k .above), le-ltb 31 (rangeIn m (x .parts .first)) (k .most)))
 
 group-kept : (m : List ℕ) (x : Message) → brokenGroup m (indicatorIn m x) (x .parts .first) ≡ false → KeepsGroup m x
 group-kept m x e =
@@ -74,32 +61,36 @@ module _ (m : List ℕ) (x : Message) where
   apart k l e p h = eqb-false k l p (sym e ∙ h)
 
   -- a type with no rule breaks none
-  none : (k : ℕ) → x .kind ≡ k → eqb k GRS ≡ false → eqb k CGB ≡ false → eqb k CGU ≡ false → Settles false
-  none k e p q r = (
+  none : (k : ℕ) → x .kind ≡ k → eqb k GRS ≡ false → eqb k CGB ≡ false → eqb k CGU ≡ false → eqb k CQM ≡ false → Settles false
+  none k e p q r s = (
     λ h. absurd (true-false {t = false} h refl),
-    λ h. ⊎-elim (λ w. apart k GRS e p (w .0)) (λ w. ⊎-elim (apart k CGB e q) (⊎-elim (apart k CGU e r) (λ z. z)) (w .0)),
+    λ h. ⊎-elim (λ w. apart k GRS e p (w .0)) (⊎-elim (λ w. ⊎-elim (apart k CGB e q) (⊎-elim (apart k CGU e r) (λ z. z)) (w .0)) (λ w. apart k CQM e s (w .0))),
   )
 
-  group : OneOf (x .kind) (CGB ∷ CGU ∷ []) → (x .kind ≡ GRS → ⊥) → Settles (brokenGroup m (indicatorIn m x) (x .parts .first))
-  group o n = (
-    λ e. inr (o, group-broken m x e),
-    λ e. ⊎-elim (λ h. n (h .0)) (λ h. h .1 (group-kept m x e)),
+  group : OneOf (x .kind) (CGB ∷ CGU ∷ []) → (x .kind ≡ GRS → ⊥) → (x .kind ≡ CQM → ⊥) → Settles (brokenGroup m (indicatorIn m x) (x .parts .first))
+  group o n k = (
+    λ e. inr (inl (o, group-broken m x e)),
+    λ e. ⊎-elim (λ h. n (h .0)) (⊎-elim (λ h. h .1 (group-kept m x e)) (λ h. k (h .0))),
   )
 
   rule-cases : (act : Act) → x .kind ≡ typeOf act → Settles (broken act m x)
-  rule-cases Seize e = none IAM e refl refl refl
-  rule-cases Release e = none REL e refl refl refl
-  rule-cases Reset e = none RSC e refl refl refl
-  rule-cases Block e = none BLO e refl refl refl
-  rule-cases Unblock e = none UBL e refl refl refl
+  rule-cases Seize e = none IAM e refl refl refl refl
+  rule-cases Release e = none REL e refl refl refl refl
+  rule-cases Reset e = none RSC e refl refl refl refl
+  rule-cases Block e = none BLO e refl refl refl refl
+  rule-cases Unblock e = none UBL e refl refl refl refl
   rule-cases ResetGroup e = (
-    λ h. inl (e, reset-broken m x h),
-    λ h. ⊎-elim (λ w. w .1 (reset-kept m x h)) (λ w. ⊎-elim (apart GRS CGB e refl) (⊎-elim (apart GRS CGU e refl) (λ z. z)) (w .0)),
+    λ h. inl (e, range-broken 1 m x h),
+    λ h. ⊎-elim (λ w. w .1 (range-kept 1 m x h)) (⊎-elim (λ w. ⊎-elim (apart GRS CGB e refl) (⊎-elim (apart GRS CGU e refl) (λ z. z)) (w .0)) (λ w. apart GRS CQM e refl (w .0))),
   )
-  rule-cases BlockGroup e = group (inl e) (apart CGB GRS e refl)
-  rule-cases UnblockGroup e = group (inr (inl e)) (apart CGU GRS e refl)
+  rule-cases BlockGroup e = group (inl e) (apart CGB GRS e refl) (apart CGB CQM e refl)
+  rule-cases UnblockGroup e = group (inr (inl e)) (apart CGU GRS e refl) (apart CGU CQM e refl)
+  rule-cases Query e = (
+    λ h. inr (inr (e, range-broken 0 m x h)),
+    λ h. ⊎-elim (λ w. apart CQM GRS e refl (w .0)) (⊎-elim (λ w. ⊎-elim (apart CQM CGB e refl) (⊎-elim (apart CQM CGU e refl) (λ z. z)) (w .0)) (λ w. w .1 (range-kept 0 m x h))),
+  )
 
--- what a message names, by the message: its circuit, and as many after it as the range octet of GRS, CGB or CGU says
+-- what a message names, by the message: its circuit, and as many after it as the range octet of GRS, CGB, CGU or CQM says
 pub ask-names : (m : List ℕ) (x : Message) (act : Act) → x .kind ≡ typeOf act → (askIn act m x .circuit ≡ x .circuit) × (askIn act m x .range ≡ rangeGiven m x)
 ask-names m x Seize e = (refl, rw e refl)
 ask-names m x Release e = (refl, rw e refl)
@@ -109,6 +100,7 @@ ask-names m x Unblock e = (refl, rw e refl)
 ask-names m x ResetGroup e = (refl, rw e refl)
 ask-names m x BlockGroup e = (refl, rw e refl)
 ask-names m x UnblockGroup e = (refl, rw e refl)
+ask-names m x Query e = (refl, rw e refl)
 
 -- the same of what is asked
 pub asked-names : (m : List ℕ) (x : Message) (a : Ask) → IsAsked m x a → (a .circuit ≡ x .circuit) × (a .range ≡ rangeGiven m x)

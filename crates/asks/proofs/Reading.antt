@@ -24,11 +24,11 @@ use Rattle.isup.specs.Read.{readOf}
 use Rattle.isup.specs.WellFormed.{WellFormed}
 use Rattle.isup.proofs.Exactly.{read-exactly}
 use Rattle.rows.specs.declared.Act.{Act}
-use Rattle.rows.specs.declared.Act.the-variants.{Seize, Release, Reset, Block, Unblock, ResetGroup, BlockGroup, UnblockGroup}
+use Rattle.rows.specs.declared.Act.the-variants.{Seize, Release, Reset, Block, Unblock, ResetGroup, BlockGroup, UnblockGroup, Query}
 use Rattle.asks.specs.declared.Ask.{Ask}
 use Rattle.isup.specs.Types.{CGB, CGU}
 use Rattle.asks.specs.Types.{typeOf, actFor}
-use Rattle.asks.specs.Asks.{rangeIn, blockKind, width, brokenGroup, broken, oneAsk, groupAsk, indicatorIn, askIn, reaching, askedFor, askedIn, askOf, Sound}
+use Rattle.asks.specs.Asks.{rangeIn, blockKind, width, brokenRange, brokenGroup, broken, oneAsk, rangeAsk, groupAsk, indicatorIn, askIn, reaching, askedFor, askedIn, askOf, Sound}
 use Rattle.asks.specs.Inside.{looked, Placed}
 use Rattle.asks.proofs.Types.{for-type}
 
@@ -83,6 +83,7 @@ looked-for m x Unblock = refl
 looked-for m x ResetGroup = refl
 looked-for m x BlockGroup = refl
 looked-for m x UnblockGroup = refl
+looked-for m x Query = refl
 
 pub looked-so : (m : List ℕ) (x : Message) → askedIn m (looked (x .kind) (x .circuit) (x .parts .fixed .from) (x .parts .first)) ≡ askedIn m x
 unfolding askedIn
@@ -111,6 +112,17 @@ past false e = (refl, e)
 same : (t : Bool) → (if t then false else true) ≡ false → t ≡ true
 same true e = refl
 same false e = let z : _≡_ {A = ℕ} 0 1 = cc in absurd (omega arith)
+
+held-so : (t : Bool) {y : Bool} → (if t then y else true) ≡ false → (t ≡ true) × (y ≡ false)
+held-so true e = (refl, e)
+held-so false e = let z : _≡_ {A = ℕ} 0 1 = cc in absurd (omega arith)
+
+pub range-rule : (least : ℕ) (m : List ℕ) (contents : Span) → brokenRange least m contents ≡ false → (spanSize contents ≡ 1) × (least ≤ rangeIn m contents) × (rangeIn m contents ≤ 31)
+unfolding brokenRange
+range-rule least m contents e =
+    let a = held-so (eqb (spanSize contents) 1) e in
+    let b = past (ltb (rangeIn m contents) least) (a .1) in
+    (eqb-true _ _ (a .0), ltb-false _ _ (b .0), ltb-false _ _ (b .1))
 
 pub whole-group : (m : List ℕ) (indicator : ℕ) (contents : Span) → brokenGroup m indicator contents ≡ false → WholeGroup m indicator contents
 unfolding brokenGroup
@@ -163,15 +175,25 @@ ask-last m a e = let r = ask-read m a e in asked-is m (r .0) a (r .2) .last
 -- ---- what is asked is sound
 module _ (m : List ℕ) (x : Message) (f : WellFormed m x) (o : AllOctets m) where
   sound-one : (act : Act) → x .circuit + 0 ≤ 4095 → Sound m (oneAsk act (x .circuit))
-  sound-one act h = record { last = h; few = omega arith; kinds = omega arith; there = inl refl }
+  sound-one act h = record { last = h; few = omega arith; fewer = λ e. omega arith; kinds = omega arith; there = inl refl }
 
-  sound-group : (act : Act) → brokenGroup m (indicatorIn m x) (x .parts .first) ≡ false → x .circuit + rangeIn m (x .parts .first) ≤ 4095 → Sound m (groupAsk m act (x .circuit) (indicatorIn m x) (x .parts .first))
-  sound-group act b h =
+  sound-range : (act : Act) (least : ℕ) → brokenRange least m (x .parts .first) ≡ false → x .circuit + rangeIn m (x .parts .first) ≤ 4095 → Sound m (rangeAsk m act (x .circuit) (x .parts .first))
+  sound-range act least b h = record {
+    last = h;
+    few = omega (arith, o (x .parts .first .from));
+    fewer = λ e. range-rule least m (x .parts .first) b .2;
+    kinds = omega arith;
+    there = inl refl;
+  }
+
+  sound-group : (act : Act) → (act ≡ Query → ⊥) → brokenGroup m (indicatorIn m x) (x .parts .first) ≡ false → x .circuit + rangeIn m (x .parts .first) ≤ 4095 → Sound m (groupAsk m act (x .circuit) (indicatorIn m x) (x .parts .first))
+  sound-group act n b h =
       let w = whole-group m (indicatorIn m x) (x .parts .first) b in
       let i = contents-in m x f in
       record {
         last = h;
         few = omega (arith, o (x .parts .first .from));
+        fewer = λ e. absurd (n e);
         kinds = w .kinds;
         there = inr (omega (arith, w .exact, i .0, i .1));
       }
@@ -182,14 +204,10 @@ module _ (m : List ℕ) (x : Message) (f : WellFormed m x) (o : AllOctets m) whe
   sound-cases Reset b h = sound-one Reset h
   sound-cases Block b h = sound-one Block h
   sound-cases Unblock b h = sound-one Unblock h
-  sound-cases ResetGroup b h = record {
-    last = h;
-    few = omega (arith, o (x .parts .first .from));
-    kinds = omega arith;
-    there = inl refl;
-  }
-  sound-cases BlockGroup b h = sound-group BlockGroup b h
-  sound-cases UnblockGroup b h = sound-group UnblockGroup b h
+  sound-cases ResetGroup b h = sound-range ResetGroup _ b h
+  sound-cases BlockGroup b h = sound-group BlockGroup (λ e. let z : _≡_ {A = ℕ} 0 1 = cc in omega arith) b h
+  sound-cases UnblockGroup b h = sound-group UnblockGroup (λ e. let z : _≡_ {A = ℕ} 0 1 = cc in omega arith) b h
+  sound-cases Query b h = sound-range Query _ b h
 
   asked-sound : (a : Ask) → askedIn m x ≡ accepted a → Sound m a
   asked-sound a e =

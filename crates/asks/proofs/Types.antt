@@ -10,7 +10,7 @@ use Rattle.octets.specs.Among.{OneOf}
 use Rattle.octets.proofs.Answer.{refused-accepted, accepted-same}
 use Rattle.octets.proofs.Choice.{chosen}
 use Rattle.rows.specs.declared.Act.{Act}
-use Rattle.rows.specs.declared.Act.the-variants.{Seize, Release, Reset, Block, Unblock, ResetGroup, BlockGroup, UnblockGroup}
+use Rattle.rows.specs.declared.Act.the-variants.{Seize, Release, Reset, Block, Unblock, ResetGroup, BlockGroup, UnblockGroup, Query}
 use Rattle.asks.specs.Types.{acting, typeOf, acts, actAmong, actFor}
 
 -- the type of an act asks for it
@@ -24,6 +24,7 @@ for-type kind Unblock e = rw e
 for-type kind ResetGroup e = rw e
 for-type kind BlockGroup e = rw e
 for-type kind UnblockGroup e = rw e
+for-type kind Query e = rw e
 
 type-among : (kind : ℕ) (l : List Act) (act : Act) → actAmong kind l ≡ accepted act → kind ≡ typeOf act
 type-among kind [] act e = absurd (refused-accepted e)
@@ -56,6 +57,7 @@ type-acting Unblock = inr (inr (inr (inr (inl refl))))
 type-acting ResetGroup = inr (inr (inr (inr (inr (inl refl)))))
 type-acting BlockGroup = inr (inr (inr (inr (inr (inr (inl refl))))))
 type-acting UnblockGroup = inr (inr (inr (inr (inr (inr (inr (inl refl)))))))
+type-acting Query = inr (inr (inr (inr (inr (inr (inr (inr (inl refl))))))))
 
 -- the types that the hub acts on are those of its acts
 pub one-acting : (kind : ℕ) (act : Act) → kind ≡ typeOf act → OneOf kind acting
@@ -63,4 +65,4 @@ one-acting kind act e = subst (λ (k : ℕ). OneOf k acting) (sym e) (type-actin
 
 pub acting-act : (kind : ℕ) → OneOf kind acting → (act : Act) × (kind ≡ typeOf act)
 acting-act kind o =
-    ⊎-elim (λ e. (Seize, e)) (⊎-elim (λ e. (Release, e)) (⊎-elim (λ e. (Reset, e)) (⊎-elim (λ e. (Block, e)) (⊎-elim (λ e. (Unblock, e)) (⊎-elim (λ e. (ResetGroup, e)) (⊎-elim (λ e. (BlockGroup, e)) (⊎-elim (λ e. (UnblockGroup, e)) (λ n. absurd n)))))))) o
+    ⊎-elim (λ e. (Seize, e)) (⊎-elim (λ e. (Release, e)) (⊎-elim (λ e. (Reset, e)) (⊎-elim (λ e. (Block, e)) (⊎-elim (λ e. (Unblock, e)) (⊎-elim (λ e. (ResetGroup, e)) (⊎-elim (λ e. (BlockGroup, e)) (⊎-elim (λ e. (UnblockGroup, e)) (⊎-elim (λ e. (Query, e)) (λ n. absurd n))))))))) o

@@ -16,7 +16,7 @@ use Rattle.isup.specs.declared.Message.{Message}
 use Rattle.isup.specs.Limits.{lastCircuit}
 use Rattle.isup.specs.Read.{readOf}
 use Rattle.rows.specs.declared.Act.{Act}
-use Rattle.rows.specs.declared.Act.the-variants.{Seize, Release, Reset, Block, Unblock, ResetGroup, BlockGroup, UnblockGroup}
+use Rattle.rows.specs.declared.Act.the-variants.{Seize, Release, Reset, Block, Unblock, ResetGroup, BlockGroup, UnblockGroup, Query}
 use Rattle.asks.specs.declared.Ask.{Ask}
 use Rattle.asks.specs.Types.{actFor}
 
@@ -32,10 +32,10 @@ blockKind indicator = indicator % 4
 abbrev pub width : ℕ → ℕ
 width r = r / 8 + 1
 
--- GRS breaks its rule unless its contents are exactly the range's octet, and the range is 1 to 31
-unfoldable pub brokenReset : List ℕ → Span → Bool
-brokenReset m contents =
-    if eqb (spanSize contents) 1 then (if eqb (rangeIn m contents) 0 then true else ltb 31 (rangeIn m contents))
+-- GRS and CQM break their rule unless their contents are exactly the range's octet, and the range is from the least to 31: 1 is the least of GRS, 0 of CQM
+unfoldable pub brokenRange : ℕ → List ℕ → Span → Bool
+brokenRange least m contents =
+    if eqb (spanSize contents) 1 then (if ltb (rangeIn m contents) least then true else ltb 31 (rangeIn m contents))
     else true
 
 -- CGB and CGU break theirs unless the kind is 0 or 1, the range 1 to 255, and after it come exactly r/8+1 status octets
@@ -51,9 +51,9 @@ brokenGroup m indicator contents =
 abbrev pub oneAsk : Act → ℕ → Ask
 oneAsk act circuit = record { act = act; circuit = circuit; range = 0; block = 0; status = 0 }
 
--- GRS names circuits m to m+r, each of them marked
-abbrev pub resetAsk : List ℕ → ℕ → Span → Ask
-resetAsk m circuit contents = record { act = ResetGroup; circuit = circuit; range = rangeIn m contents; block = 0; status = 0 }
+-- GRS and CQM name circuits m to m+r, each of them marked
+abbrev pub rangeAsk : List ℕ → Act → ℕ → Span → Ask
+rangeAsk m act circuit contents = record { act = act; circuit = circuit; range = rangeIn m contents; block = 0; status = 0 }
 
 -- CGB and CGU name circuits m to m+r; the status, after the range, marks some of them
 abbrev pub groupAsk : List ℕ → Act → ℕ → ℕ → Span → Ask
@@ -71,9 +71,10 @@ broken Release m x = false
 broken Reset m x = false
 broken Block m x = false
 broken Unblock m x = false
-broken ResetGroup m x = brokenReset m (x .parts .first)
+broken ResetGroup m x = brokenRange 1 m (x .parts .first)
 broken BlockGroup m x = brokenGroup m (indicatorIn m x) (x .parts .first)
 broken UnblockGroup m x = brokenGroup m (indicatorIn m x) (x .parts .first)
+broken Query m x = brokenRange 0 m (x .parts .first)
 
 -- what a message that reads asks, where its type asks for that act
 abbrev pub askIn : Act → List ℕ → Message → Ask
@@ -82,9 +83,10 @@ askIn Release m x = oneAsk Release (x .circuit)
 askIn Reset m x = oneAsk Reset (x .circuit)
 askIn Block m x = oneAsk Block (x .circuit)
 askIn Unblock m x = oneAsk Unblock (x .circuit)
-askIn ResetGroup m x = resetAsk m (x .circuit) (x .parts .first)
+askIn ResetGroup m x = rangeAsk m ResetGroup (x .circuit) (x .parts .first)
 askIn BlockGroup m x = groupAsk m BlockGroup (x .circuit) (indicatorIn m x) (x .parts .first)
 askIn UnblockGroup m x = groupAsk m UnblockGroup (x .circuit) (indicatorIn m x) (x .parts .first)
+askIn Query m x = rangeAsk m Query (x .circuit) (x .parts .first)
 
 -- that a message that reads asks this
 abbrev pub IsAsked : List ℕ → Message → Ask → Type 0
@@ -118,9 +120,10 @@ bitAt m status n = eqb (octet m (status + n / 8) / 2 ^ (n % 8) % 2) 1
 unfoldable pub markOf : List ℕ → ℕ → ℕ → Bool
 markOf m status n = if eqb status 0 then true else bitAt m status n
 
--- what is known of an ask that was not refused: the group ends at the last circuit at the latest, and the status is in the message
+-- what is known of an ask that was not refused: the group ends at the last circuit at the latest, CQM's has 32 circuits at the most, and the status is in the message
 pub record Sound (m : List ℕ) (a : Ask) : Type 0 where
   pub last : a .circuit + a .range ≤ lastCircuit
   pub few : a .range ≤ 255
+  pub fewer : a .act ≡ Query → a .range ≤ 31
   pub kinds : a .block ≤ 1
   pub there : (a .status ≡ 0) ⊎ (a .status + a .range / 8 < length m)

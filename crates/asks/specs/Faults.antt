@@ -10,7 +10,7 @@ use Rattle.isup.specs.declared.Message.{Message}
 use Rattle.isup.specs.Limits.{lastCircuit}
 use Rattle.isup.specs.WellFormed.{WellFormed}
 use Rattle.isup.specs.Faults.{readerFaults}
-use Rattle.isup.specs.Types.{GRS, CGB, CGU}
+use Rattle.isup.specs.Types.{GRS, CGB, CGU, CQM}
 use Rattle.asks.specs.Types.{acting}
 use Rattle.layout.specs.Spans.{spanSize}
 use Rattle.asks.specs.Asks.{rangeIn, blockKind, width, indicatorIn}
@@ -23,10 +23,10 @@ Reads m P = (x : Message) × WellFormed m x × P x
 abbrev pub NotActedOn : Message → Type 0
 NotActedOn x = OneOf (x .kind) acting → ⊥
 
--- GRS: contents exactly r's octet, range r from 1 to 31
-pub record KeepsReset (m : List ℕ) (x : Message) : Type 0 where
+-- GRS, CQM: contents exactly r's octet, range r from the least to 31
+pub record KeepsRange (least : ℕ) (m : List ℕ) (x : Message) : Type 0 where
   pub exact : spanSize (x .parts .first) ≡ 1
-  pub least : 1 ≤ rangeIn m (x .parts .first)
+  pub above : least ≤ rangeIn m (x .parts .first)
   pub most : rangeIn m (x .parts .first) ≤ 31
 
 -- CGB, CGU: low two bits of the indicator 0 or 1; range from 1 on (an octet, so to 255), then exactly r/8+1 status octets
@@ -35,14 +35,16 @@ pub record KeepsGroup (m : List ℕ) (x : Message) : Type 0 where
   pub least : 1 ≤ rangeIn m (x .parts .first)
   pub exact : spanSize (x .parts .first) ≡ 1 + width (rangeIn m (x .parts .first))
 
--- 14: typed contents break their rule
+-- 14: typed contents break their rule: GRS has a range of 1 to 31, CQM of 0 to 31
 abbrev pub BreaksRule : List ℕ → Message → Type 0
 BreaksRule m x =
-    ((x .kind ≡ GRS) × (KeepsReset m x → ⊥)) ⊎ (OneOf (x .kind) (CGB ∷ CGU ∷ []) × (KeepsGroup m x → ⊥))
+    ((x .kind ≡ GRS) × (KeepsRange 1 m x → ⊥))
+    ⊎ ((OneOf (x .kind) (CGB ∷ CGU ∷ []) × (KeepsGroup m x → ⊥))
+    ⊎ ((x .kind ≡ CQM) × (KeepsRange 0 m x → ⊥)))
 
--- the range that a message gives: the range octet of GRS, CGB and CGU, else 0
+-- the range that a message gives: the range octet of GRS, CGB, CGU and CQM, else 0
 abbrev pub rangeGiven : List ℕ → Message → ℕ
-rangeGiven m x = if among (x .kind) (GRS ∷ CGB ∷ CGU ∷ []) then rangeIn m (x .parts .first) else 0
+rangeGiven m x = if among (x .kind) (GRS ∷ CGB ∷ CGU ∷ CQM ∷ []) then rangeIn m (x .parts .first) else 0
 
 -- 18: group passes circuit 4095
 abbrev pub GroupPasses : List ℕ → Message → Type 0

@@ -4,13 +4,13 @@ use mathlib.Core.List.{List, [], _∷_}
 use lib.Dec.{eqb}
 use Rattle.octets.specs.Choice.{if_then_else_}
 use Rattle.octets.specs.Answer.{Answer, accepted, refused}
-use Rattle.isup.specs.Types.{IAM, REL, RSC, BLO, UBL, GRS, CGB, CGU}
+use Rattle.isup.specs.Types.{IAM, REL, RSC, BLO, UBL, GRS, CGB, CGU, CQM}
 use Rattle.rows.specs.declared.Act.{Act}
-use Rattle.rows.specs.declared.Act.the-variants.{Seize, Release, Reset, Block, Unblock, ResetGroup, BlockGroup, UnblockGroup}
+use Rattle.rows.specs.declared.Act.the-variants.{Seize, Release, Reset, Block, Unblock, ResetGroup, BlockGroup, UnblockGroup, Query}
 
 -- the types that the hub acts on
 abbrev pub acting : List ℕ
-acting = IAM ∷ REL ∷ RSC ∷ BLO ∷ UBL ∷ GRS ∷ CGB ∷ CGU ∷ []
+acting = IAM ∷ REL ∷ RSC ∷ BLO ∷ UBL ∷ GRS ∷ CGB ∷ CGU ∷ CQM ∷ []
 
 -- the type that asks for an act
 abbrev pub typeOf : Act → ℕ
@@ -22,10 +22,11 @@ typeOf Unblock = UBL
 typeOf ResetGroup = GRS
 typeOf BlockGroup = CGB
 typeOf UnblockGroup = CGU
+typeOf Query = CQM
 
 -- every act
 abbrev pub acts : List Act
-acts = Seize ∷ Release ∷ Reset ∷ Block ∷ Unblock ∷ ResetGroup ∷ BlockGroup ∷ UnblockGroup ∷ []
+acts = Seize ∷ Release ∷ Reset ∷ Block ∷ Unblock ∷ ResetGroup ∷ BlockGroup ∷ UnblockGroup ∷ Query ∷ []
 
 -- the act of a list that the type asks for; 17 where there is none
 abbrev pub actAmong : ℕ → List Act → Answer Act

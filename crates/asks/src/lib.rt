@@ -4,12 +4,13 @@ ghost use Prim.Native.Nat.{_+_, _≤_};
 ghost use lib.ListN.{length};
 ghost use Rattle.octets.specs.Answer.{accepted};
 ghost use Rattle.isup.specs.Limits.{lastCircuit};
-ghost use Rattle.asks.specs.Asks.{brokenReset, brokenGroup, oneAsk, resetAsk, groupAsk, unbroken, askedIn, askOf};
+ghost use Rattle.asks.specs.Asks.{brokenRange, brokenGroup, oneAsk, rangeAsk, groupAsk, unbroken, askedIn, askOf};
 ghost use Rattle.asks.specs.Inside.{Placed, looked};
 ghost use Rattle.asks.specs.Told.{verdictTold};
 use isup::BLO;
 use isup::CGB;
 use isup::CGU;
+use isup::CQM;
 use isup::GRS;
 use isup::IAM;
 use isup::LAST_CIRCUIT;
@@ -20,8 +21,8 @@ use isup::UBL;
 use layout::Span;
 use rows::Act;
 
-// GRS has a range of 1 to this.
-const MOST_RESET: usize = 31;
+// GRS and CQM have a range up to this.
+const MOST_RANGE: usize = 31;
 
 // What a message asks: the act; the circuits, `circuit` and the `range` after it; the kind of block, 0 for maintenance and 1 for hardware; and the octet at which the status stands, 0 where each named circuit is marked.
 pub struct Ask {
@@ -38,27 +39,27 @@ pub enum Verdict {
     Refused(u8, usize),
 }
 
-// What GRS asks: 14 unless its contents are exactly the range's octet and the range is 1 to 31, then 18.
-fn ask_reset(message: &[u8], circuit: usize, contents: Span) -> Verdict
+// What GRS or CQM asks: 14 unless its contents are exactly the range's octet and the range is from the least on, to 31, then 18.
+fn ask_range(message: &[u8], act: Act, circuit: usize, least: usize, contents: Span) -> Verdict
     requires { ⌜ (contents .from ≤ contents .to) × (contents .to ≤ length (now message)) × (circuit ≤ lastCircuit) ⌝ }
-    ensures { λ r. ⌜ verdictTold r ≡ unbroken (brokenReset (now (message .entry)) contents) (resetAsk (now (message .entry)) circuit contents) ⌝ }
+    ensures { λ r. ⌜ verdictTold r ≡ unbroken (brokenRange least (now (message .entry)) contents) (rangeAsk (now (message .entry)) act circuit contents) ⌝ }
 {
     let from = contents.from;
     if contents.to - from != 1 {
         return Verdict::Refused(14, 0);
     }
     let range = message[from] as usize;
-    if range == 0 {
+    if range < least {
         return Verdict::Refused(14, 0);
     }
-    if range > MOST_RESET {
+    if range > MOST_RANGE {
         return Verdict::Refused(14, 0);
     }
     if circuit + range > LAST_CIRCUIT as usize {
         return Verdict::Refused(18, 0);
     }
     Verdict::Granted(Ask {
-        act: Act::ResetGroup,
+        act,
         circuit,
         range,
         block: 0,
@@ -124,9 +125,10 @@ fn ask_in(message: &[u8], kind: u8, circuit: usize, at: usize, contents: Span) -
         RSC => ask_one(Act::Reset, circuit),
         BLO => ask_one(Act::Block, circuit),
         UBL => ask_one(Act::Unblock, circuit),
-        GRS => ask_reset(message, circuit, contents),
+        GRS => ask_range(message, Act::ResetGroup, circuit, 1, contents),
         CGB => ask_group(message, Act::BlockGroup, circuit, message[at], contents),
         CGU => ask_group(message, Act::UnblockGroup, circuit, message[at], contents),
+        CQM => ask_range(message, Act::Query, circuit, 0, contents),
         _ => Verdict::Refused(17, 0),
     }
 }

@@ -63,9 +63,9 @@ module _ (T : Tables) (sender : ℕ) (m buffer : List ℕ) where
   pub record Called (n : ℕ) (r : After) : Type 0 where
     pub ask : Ask
     pub allowed : Allowed T sender m (length buffer) ask
-    pub count : n ≡ length (replyOf m ask)
+    pub count : n ≡ length (replyOf (T .states) m ask)
     pub rows : r .states ≡ rowsAfter m ask (T .states)
-    pub front : r .buffer ≡ filled (replyOf m ask) buffer
+    pub front : r .buffer ≡ filled (replyOf (T .states) m ask) buffer
 
   pub call-accepted : (n : ℕ) → actOf T sender m buffer .answer ≡ accepted n → Called n (actOf T sender m buffer)
   unfolding actOf
@@ -96,7 +96,7 @@ module _ (T : Tables) (sender : ℕ) (m buffer : List ℕ) where
   answer-or = go (grantOf T sender m (length buffer))
     where
       go : (g : Answer Ask) → ((n : ℕ) × (carriedOut T m buffer g .answer ≡ accepted n)) ⊎ ((n : ℕ) × (at : ℕ) × (carriedOut T m buffer g .answer ≡ refused n at))
-      go (accepted a) = inl (length (replyOf m a), refl)
+      go (accepted a) = inl (length (replyOf (T .states) m a), refl)
       go (refused k at) = inr (k, at, refl)
 
   -- what was granted is what the message asks

@@ -1,46 +1,104 @@
 -- The hub from what its calls ensure, over plain variables.
-use Prim.Native.Nat.{ℕ, _+_, _≤_, _<_}
+use Prim.Native.Nat.{ℕ, _+_, _≤_}
 use mathlib.Core.Path.{_≡_, refl, sym, _∙_, ap, subst}
 use mathlib.Core.Bool.{Bool, true, false}
 use mathlib.Core.List.{List}
-use native.Mathlib.Omega.{arith}
-use borrow.Author.Tests.{eq-eqb, eqb-true, ltb-false, lt-ltb, le-ltb}
+use borrow.Author.Tests.{eq-eqb, eqb-true, ltb-false}
 use lib.Dec.{ltb, eqb}
 use lib.ListN.{length}
-use lib.Seq.{sets}
 use Rattle.octets.specs.Octet.{AllOctets}
 use Rattle.octets.specs.Choice.{if_then_else_}
-use Rattle.octets.specs.Answer.{accepted, refused, _then_}
+use Rattle.octets.specs.Answer.{Answer, accepted, refused, _then_}
+use Rattle.octets.specs.Filled.{Done, done, leaving}
+use Rattle.octets.specs.Told.{writtenTold}
+use Rattle.octets.specs.declared.Written.{Written}
+use Rattle.octets.specs.declared.Written.the-variants.{Octets, Refused as Withheld}
 use Rattle.octets.proofs.Answer.{refused-accepted, accepted-same, past-test, then-accepted}
 use Rattle.octets.proofs.Choice.{true-false}
-use Rattle.octets.proofs.Filled.{sets-filled}
 use Rattle.asks.specs.declared.Ask.{Ask}
 use Rattle.asks.specs.declared.Verdict.{Verdict}
 use Rattle.asks.specs.declared.Verdict.the-variants.{Granted, Refused}
 use Rattle.asks.specs.Asks.{askOf, Sound}
 use Rattle.asks.specs.Told.{verdictTold}
 use Rattle.asks.proofs.Reading.{ask-sound}
+use Rattle.replies.specs.Replies.{sent}
 use Rattle.hub.specs.Tables.{Tables, sized}
 use Rattle.hub.specs.Rights.{firstForeign, firstIllegal, isFound}
 use Rattle.hub.specs.Rows.{rowsAfter}
-use Rattle.hub.specs.Replies.{replyOf, replyLength}
-use Rattle.hub.specs.Acts.{isTaken, allowedOf, grantOf, after, carriedOut, actOf}
-use Rattle.hub.proofs.Writing.{length-reply}
+use Rattle.hub.specs.Replies.{replyOf}
+use Rattle.hub.specs.Acts.{isTaken, permittedOf, roomed, allowedOf, judgedOf, grantOf, after, carriedOut, actOf}
 
 -- ---- all that is looked at, with tables of the right length
-module _ (T : Tables) (sender : ℕ) (m : List ℕ) (room : ℕ) (p : length (T .states) ≡ 4096) (q : length (T .owners) ≡ 4096) where
-  pub grant-sized : grantOf T sender m room ≡ (askOf m then allowedOf T sender m room)
-  unfolding grantOf
-  grant-sized = rw (eq-eqb _ _ p, eq-eqb _ _ q)
+pub grant-sized : (T : Tables) (sender : ℕ) (m : List ℕ) (room : ℕ) → length (T .states) ≡ 4096 → length (T .owners) ≡ 4096 → grantOf T sender m room ≡ (askOf m then allowedOf T sender m room)
+unfolding grantOf
+grant-sized T sender m room p q = rw (eq-eqb _ _ p, eq-eqb _ _ q)
+
+module _ (T : Tables) (sender : ℕ) (m : List ℕ) (p : length (T .states) ≡ 4096) (q : length (T .owners) ≡ 4096) where
+  judged-sized : judgedOf T sender m ≡ (askOf m then permittedOf T sender)
+  unfolding judgedOf
+  judged-sized = rw (eq-eqb _ _ p, eq-eqb _ _ q)
 
   module _ (v : Verdict) (w : verdictTold v ≡ askOf m) where
-    pub grant-refused : (n at : ℕ) → v ≡ Refused n at → refused n at ≡ grantOf T sender m room
-    grant-refused n at f =
-        sym (grant-sized ∙ ap (λ z. z then allowedOf T sender m room) (sym w ∙ ap verdictTold f))
+    pub judged-refused : (n at : ℕ) → v ≡ Refused n at → refused n at ≡ judgedOf T sender m
+    judged-refused n at f =
+        sym (judged-sized ∙ ap (λ z. z then permittedOf T sender) (sym w ∙ ap verdictTold f))
 
-    pub grant-asked : (a : Ask) → v ≡ Granted a → allowedOf T sender m room a ≡ grantOf T sender m room
-    grant-asked a f =
-        sym (grant-sized ∙ ap (λ z. z then allowedOf T sender m room) (sym w ∙ ap verdictTold f))
+    pub judged-asked : (a : Ask) → v ≡ Granted a → permittedOf T sender a ≡ judgedOf T sender m
+    judged-asked a f =
+        sym (judged-sized ∙ ap (λ z. z then permittedOf T sender) (sym w ∙ ap verdictTold f))
+
+-- what is granted is what is judged, with room for its answer
+pub grant-judged : (T : Tables) (sender : ℕ) (m : List ℕ) (room : ℕ) → grantOf T sender m room ≡ (judgedOf T sender m then roomed T m room)
+unfolding grantOf judgedOf allowedOf
+grant-judged T sender m room = go (sized T) (askOf m)
+  where
+    go : (t : Bool) (x : Answer Ask) → (if t then (x then (λ a. permittedOf T sender a then roomed T m room)) else refused 16 0) ≡ ((if t then (x then permittedOf T sender) else refused 16 0) then roomed T m room)
+    go true (accepted a) = refl
+    go true (refused n at) = refl
+    go false x = refl
+
+-- ---- what is known of what is permitted
+pub record Permitted (T : Tables) (sender : ℕ) (a : Ask) : Type 0 where
+  pub mine : isFound (firstForeign (T .owners) sender (a .circuit) (a .range + 1)) ≡ false
+  pub legal : isFound (firstIllegal (T .states) (a .circuit) (a .range + 1)) ≡ false
+  pub free : isTaken (T .states) (a .act) (a .circuit) ≡ false
+
+pub permitted : (T : Tables) (sender : ℕ) (b a : Ask) → permittedOf T sender b ≡ accepted a → (b ≡ a) × Permitted T sender a
+unfolding permittedOf
+permitted T sender b a e =
+    let t1 = past-test 19 0 (isFound (firstForeign (T .owners) sender (b .circuit) (b .range + 1))) e in
+    let t2 = past-test 20 0 (isFound (firstIllegal (T .states) (b .circuit) (b .range + 1))) (t1 .1) in
+    let t3 = past-test 21 0 (isTaken (T .states) (b .act) (b .circuit)) (t2 .1) in
+    let s : b ≡ a = accepted-same (t3 .1) in
+    (s, subst (λ (y : Ask). Permitted T sender y) s (record { mine = t1 .0; legal = t2 .0; free = t3 .0 }))
+
+both : (s t : Bool) → (if s then t else false) ≡ true → (s ≡ true) × (t ≡ true)
+both true t e = (refl, e)
+both false t e = absurd (true-false {t = false} e refl)
+
+-- what is judged and not refused
+pub record Fair (T : Tables) (sender : ℕ) (m : List ℕ) (a : Ask) : Type 0 where
+  pub states-sized : length (T .states) ≡ 4096
+  pub owners-sized : length (T .owners) ≡ 4096
+  pub asks : askOf m ≡ accepted a
+  pub permits : Permitted T sender a
+
+pub fair : (T : Tables) (sender : ℕ) (m : List ℕ) (a : Ask) → judgedOf T sender m ≡ accepted a → Fair T sender m a
+unfolding judgedOf
+fair T sender m a e = go (sized T) refl e
+  where
+    go : (t : Bool) → sized T ≡ t → (if t then (askOf m then permittedOf T sender) else refused 16 0) ≡ accepted a → Fair T sender m a
+    go false s h = absurd (refused-accepted h)
+    go true s h =
+        let k = both (eqb (length (T .states)) 4096) (eqb (length (T .owners)) 4096) s in
+        let g = then-accepted (askOf m) (permittedOf T sender) h in
+        let p = permitted T sender (g .0) a (g .2) in
+        record {
+          states-sized = eqb-true _ _ (k .0);
+          owners-sized = eqb-true _ _ (k .1);
+          asks = g .1 ∙ ap accepted (p .0);
+          permits = p .1;
+        }
 
 -- ---- what is known of what is granted
 pub record Allowed (T : Tables) (sender : ℕ) (m : List ℕ) (room : ℕ) (a : Ask) : Type 0 where
@@ -50,82 +108,79 @@ pub record Allowed (T : Tables) (sender : ℕ) (m : List ℕ) (room : ℕ) (a : 
   pub mine : isFound (firstForeign (T .owners) sender (a .circuit) (a .range + 1)) ≡ false
   pub legal : isFound (firstIllegal (T .states) (a .circuit) (a .range + 1)) ≡ false
   pub free : isTaken (T .states) (a .act) (a .circuit) ≡ false
-  pub fits : length (replyOf m a) ≤ room
-
-both : (s t : Bool) → (if s then t else false) ≡ true → (s ≡ true) × (t ≡ true)
-both true t e = (refl, e)
-both false t e = absurd (true-false {t = false} e refl)
+  pub fits : length (replyOf (T .states) m a) ≤ room
 
 pub granted : (T : Tables) (sender : ℕ) (m : List ℕ) (room : ℕ) (a : Ask) → grantOf T sender m room ≡ accepted a → Allowed T sender m room a
-unfolding grantOf allowedOf
-granted T sender m room a e = go (sized T) refl e
-  where
-    go : (t : Bool) → sized T ≡ t → (if t then (askOf m then allowedOf T sender m room) else refused 16 0) ≡ accepted a → Allowed T sender m room a
-    go false s h = absurd (refused-accepted h)
-    go true s h =
-        let k = both (eqb (length (T .states)) 4096) (eqb (length (T .owners)) 4096) s in
-        let g = then-accepted (askOf m) (allowedOf T sender m room) h in
-        let b = g .0 in
-        let t1 = past-test 19 0 (isFound (firstForeign (T .owners) sender (b .circuit) (b .range + 1))) (g .2) in
-        let t2 = past-test 20 0 (isFound (firstIllegal (T .states) (b .circuit) (b .range + 1))) (t1 .1) in
-        let t3 = past-test 21 0 (isTaken (T .states) (b .act) (b .circuit)) (t2 .1) in
-        let t4 = past-test 13 0 (ltb room (length (replyOf m b))) (t3 .1) in
-        subst (λ (y : Ask). Allowed T sender m room y) (accepted-same (t4 .1))
-        (record {
-          states-sized = eqb-true _ _ (k .0);
-          owners-sized = eqb-true _ _ (k .1);
-          asks = g .1;
-          mine = t1 .0;
-          legal = t2 .0;
-          free = t3 .0;
-          fits = ltb-false _ _ (t4 .0);
-        })
+granted T sender m room a e =
+    let g = then-accepted (judgedOf T sender m) (roomed T m room) (sym (grant-judged T sender m room) ∙ e) in
+    let t = past-test 13 0 (ltb room (length (replyOf (T .states) m (g .0)))) (g .2) in
+    let f = fair T sender m (g .0) (g .1) in
+    subst (λ (y : Ask). Allowed T sender m room y) (accepted-same (t .1))
+    (record {
+      states-sized = f .states-sized;
+      owners-sized = f .owners-sized;
+      asks = f .asks;
+      mine = f .permits .mine;
+      legal = f .permits .legal;
+      free = f .permits .free;
+      fits = ltb-false _ _ (t .0);
+    })
 
 -- ---- a call
-module _ (T : Tables) (sender : ℕ) (m buffer : List ℕ) (v : Verdict) (w : verdictTold v ≡ grantOf T sender m (length buffer)) where
-  pub act-refused : (n at : ℕ) → v ≡ Refused n at → after (refused n at) (T .states) buffer ≡ actOf T sender m buffer
+module _ (T : Tables) (sender : ℕ) (m buffer : List ℕ) (v : Verdict) (w : verdictTold v ≡ judgedOf T sender m) where
+  -- what is carried out of what was judged
+  carried : {x : Answer Ask} → verdictTold v ≡ x → carriedOut T m buffer (x then roomed T m (length buffer)) ≡ actOf T sender m buffer
   unfolding actOf
-  act-refused n at f = ap (λ z. carriedOut T m buffer z) (sym (ap verdictTold f) ∙ w)
+  carried e = ap (carriedOut T m buffer) (ap (λ z. z then roomed T m (length buffer)) (sym e ∙ w) ∙ sym (grant-judged T sender m (length buffer)))
+
+  pub act-refused : (n at : ℕ) → v ≡ Refused n at → after (refused n at) (T .states) buffer ≡ actOf T sender m buffer
+  act-refused n at f = carried (ap verdictTold f)
 
   module _ (a : Ask) (f : v ≡ Granted a) where
-    pub act-allowed : Allowed T sender m (length buffer) a
-    act-allowed = granted T sender m (length buffer) a (sym w ∙ ap verdictTold f)
-
-    pub act-room : replyLength (a .act) (a .range) ≤ length buffer
-    act-room = omega (arith, act-allowed .fits, length-reply m a)
+    pub act-fair : Fair T sender m a
+    act-fair = fair T sender m a (sym w ∙ ap verdictTold f)
 
     pub act-sound : AllOctets m → Sound m a
-    act-sound o = ask-sound m a o (act-allowed .asks)
+    act-sound o = ask-sound m a o (act-fair .asks)
 
-    pub act-done : (n : ℕ) (states′ buffer′ : List ℕ) → n ≡ replyLength (a .act) (a .range) → states′ ≡ rowsAfter m a (T .states) → buffer′ ≡ sets buffer 0 (replyOf m a) → after (accepted n) states′ buffer′ ≡ actOf T sender m buffer
-    unfolding actOf
-    act-done n states′ buffer′ e p q =
-        (let e′ : n ≡ length (replyOf m a) = e ∙ sym (length-reply m a) in
-        let q′ = q ∙ sets-filled (replyOf m a) buffer (act-allowed .fits) in
-        λ i. after (accepted (e′ i)) (p i) (q′ i))
-        ∙ ap (λ z. carriedOut T m buffer z) (sym (ap verdictTold f) ∙ w)
+    module _ (r : Written) (left : List ℕ) (e : leaving (writtenTold r) left ≡ sent (replyOf (T .states) m a) buffer) where
+      -- there was no room for the answer
+      pub act-short : (n at : ℕ) → r ≡ Withheld n at → after (refused n at) (T .states) left ≡ actOf T sender m buffer
+      act-short n at q = go (ltb (length buffer) (length (replyOf (T .states) m a))) (ap (λ (y : Written). leaving (writtenTold y) left) (sym q) ∙ e) ∙ carried (ap verdictTold f)
+        where
+          go : (t : Bool) → leaving (refused n at) left ≡ done buffer (if t then refused 13 0 else accepted (length (replyOf (T .states) m a), replyOf (T .states) m a)) → after (refused n at) (T .states) left ≡ carriedOut T m buffer (if t then refused 13 0 else accepted a)
+          go true h = ap (λ (d : Done ℕ). after (d .answer) (T .states) (d .left)) h
+          go false h = absurd (refused-accepted (ap (λ (d : Done ℕ). d .answer) h))
 
--- ---- what is allowed, test by test
-module _ (T : Tables) (sender : ℕ) (m : List ℕ) (room : ℕ) (a : Ask) where
-  pub allow-foreign : isFound (firstForeign (T .owners) sender (a .circuit) (a .range + 1)) ≡ true → refused 19 0 ≡ allowedOf T sender m room a
-  unfolding allowedOf
-  allow-foreign e = rw e
+      -- there was, and the rows changed
+      pub act-done : (n : ℕ) (states′ : List ℕ) → r ≡ Octets n → states′ ≡ rowsAfter m a (T .states) → after (accepted n) states′ left ≡ actOf T sender m buffer
+      act-done n states′ q p = go (ltb (length buffer) (length (replyOf (T .states) m a))) (ap (λ (y : Written). leaving (writtenTold y) left) (sym q) ∙ e) ∙ carried (ap verdictTold f)
+        where
+          go : (t : Bool) → leaving (accepted n) left ≡ done buffer (if t then refused 13 0 else accepted (length (replyOf (T .states) m a), replyOf (T .states) m a)) → after (accepted n) states′ left ≡ carriedOut T m buffer (if t then refused 13 0 else accepted a)
+          go true h = absurd (refused-accepted (sym (ap (λ (d : Done ℕ). d .answer) h)))
+          go false h = λ i. after (h i .answer) (p i) (h i .left)
+
+-- 19 is the first of what is looked at
+pub allow-foreign : (T : Tables) (sender : ℕ) (m : List ℕ) (room : ℕ) (a : Ask) → isFound (firstForeign (T .owners) sender (a .circuit) (a .range + 1)) ≡ true → refused 19 0 ≡ allowedOf T sender m room a
+unfolding allowedOf permittedOf
+allow-foreign T sender m room a e = rw e
+
+-- ---- what is permitted, test by test
+module _ (T : Tables) (sender : ℕ) (a : Ask) where
+  pub permit-foreign : isFound (firstForeign (T .owners) sender (a .circuit) (a .range + 1)) ≡ true → refused 19 0 ≡ permittedOf T sender a
+  unfolding permittedOf
+  permit-foreign e = rw e
 
   module _ (p : isFound (firstForeign (T .owners) sender (a .circuit) (a .range + 1)) ≡ false) where
-    pub allow-illegal : isFound (firstIllegal (T .states) (a .circuit) (a .range + 1)) ≡ true → refused 20 0 ≡ allowedOf T sender m room a
-    unfolding allowedOf
-    allow-illegal e = rw (p, e)
+    pub permit-illegal : isFound (firstIllegal (T .states) (a .circuit) (a .range + 1)) ≡ true → refused 20 0 ≡ permittedOf T sender a
+    unfolding permittedOf
+    permit-illegal e = rw (p, e)
 
     module _ (q : isFound (firstIllegal (T .states) (a .circuit) (a .range + 1)) ≡ false) where
-      pub allow-taken : isTaken (T .states) (a .act) (a .circuit) ≡ true → refused 21 0 ≡ allowedOf T sender m room a
-      unfolding allowedOf
-      allow-taken e = rw (p, q) (rw e)
+      pub permit-taken : isTaken (T .states) (a .act) (a .circuit) ≡ true → refused 21 0 ≡ permittedOf T sender a
+      unfolding permittedOf
+      permit-taken e = rw (p, q) (rw e)
 
-      module _ (r : isTaken (T .states) (a .act) (a .circuit) ≡ false) (n : ℕ) (l : n ≡ replyLength (a .act) (a .range)) where
-        pub allow-short : room < n → refused 13 0 ≡ allowedOf T sender m room a
-        unfolding allowedOf
-        allow-short h = rw (p, q) (rw (r, lt-ltb room (length (replyOf m a)) (omega (arith, length-reply m a))))
-
-        pub allow-all : n ≤ room → accepted a ≡ allowedOf T sender m room a
-        unfolding allowedOf
-        allow-all h = rw (p, q) (rw (r, le-ltb room (length (replyOf m a)) (omega (arith, length-reply m a))))
+      pub permit-all : isTaken (T .states) (a .act) (a .circuit) ≡ false → accepted a ≡ permittedOf T sender a
+      unfolding permittedOf
+      permit-all e = rw (p, q) (rw e)

@@ -19,11 +19,11 @@ use Rattle.isup.specs.declared.Message.{Message}
 use Rattle.isup.specs.WellFormed.{WellFormed}
 use Rattle.isup.proofs.Exactly.{read-exactly}
 use Rattle.rows.specs.declared.Act.{Act}
-use Rattle.rows.specs.declared.Act.the-variants.{Seize, Release, Reset, Block, Unblock, ResetGroup, BlockGroup, UnblockGroup}
+use Rattle.rows.specs.declared.Act.the-variants.{Seize, Release, Reset, Block, Unblock, ResetGroup, BlockGroup, UnblockGroup, Query}
 use Rattle.rows.specs.Rows.{isLegal}
 use Rattle.rows.proofs.Legality.{legal-is, is-legal}
 use Rattle.asks.specs.declared.Ask.{Ask}
-use Rattle.isup.specs.Types.{IAM, REL, RSC, BLO, UBL, GRS, CGB, CGU}
+use Rattle.isup.specs.Types.{IAM, REL, RSC, BLO, UBL, GRS, CGB, CGU, CQM}
 use Rattle.asks.specs.Types.{typeOf}
 use Rattle.asks.specs.Asks.{askIn, IsAsked, askOf}
 use Rattle.asks.specs.Faults.{Reads, rangeGiven, askFaults}
@@ -33,11 +33,13 @@ use Rattle.asks.proofs.Judged.{of-reads, asked-names, ask-judges}
 use Rattle.hub.specs.Tables.{Tables, sized}
 use Rattle.hub.specs.Rights.{isMine, firstForeign, firstIllegal, isFound}
 use Rattle.hub.specs.Names.{Named}
-use Rattle.hub.specs.Replies.{replyOf, replyLength}
-use Rattle.hub.specs.Acts.{isTaken, allowedOf, grantOf, carriedOut, actOf}
+use Rattle.replies.specs.Replies.{replyLength}
+use Rattle.hub.specs.Replies.{replyOf}
+use Rattle.hub.specs.Acts.{isTaken, permittedOf, roomed, allowedOf, grantOf, carriedOut, actOf}
 use Rattle.hub.specs.Faults.{WrongTables, NamedBy, Foreign, Illegal, Taken, answerSize, NoRoom, actFaults}
 use Rattle.hub.proofs.Meaning.{mine-is, not-mine, found-some, found-none}
 use Rattle.hub.proofs.Writing.{length-reply}
+use Rattle.hub.proofs.Given.{permitted}
 
 -- ---- 21 is given to IAM on a circuit that is busy or blocked, and only there
 module _ (states m : List ℕ) (x : Message) where
@@ -61,6 +63,7 @@ module _ (states m : List ℕ) (x : Message) where
   taken-by ResetGroup e = never GRS e refl
   taken-by BlockGroup e = never CGB e refl
   taken-by UnblockGroup e = never CGU e refl
+  taken-by Query e = never CQM e refl
 
   taken-cases : (a : Ask) → IsAsked m x a → Settles (isTaken states (a .act) (a .circuit))
   taken-cases a k = subst (λ (b : Ask). Settles (isTaken states (b .act) (b .circuit))) (k .2) (taken-by (k .0) (type-is (x .kind) (k .0) (k .1)))
@@ -76,6 +79,7 @@ size-by m x r Unblock e = rw e refl
 size-by m x r ResetGroup e = rw e refl
 size-by m x r BlockGroup e = rw e refl
 size-by m x r UnblockGroup e = rw e refl
+size-by m x r Query e = rw e refl
 
 -- ---- what is allowed
 module _ (T : Tables) (sender : ℕ) (m : List ℕ) (room : ℕ) (x : Message) (f : WellFormed m x) (a : Ask) (k : IsAsked m x a) where
@@ -90,17 +94,17 @@ module _ (T : Tables) (sender : ℕ) (m : List ℕ) (room : ℕ) (x : Message) (
   so-named c w = (omega (arith, names .0, w .0), omega (arith, names .0, names .1, w .1))
 
   -- and is answered by as many octets as the message says
-  reply-size : length (replyOf m a) ≡ answerSize (x .kind) (rangeGiven m x)
+  reply-size : length (replyOf (T .states) m a) ≡ answerSize (x .kind) (rangeGiven m x)
   reply-size =
-      length-reply m a
+      length-reply (T .states) m a
       ∙ ap (replyLength (a .act)) (names .1)
       ∙ subst (λ (b : Ask). replyLength (b .act) (rangeGiven m x) ≡ answerSize (x .kind) (rangeGiven m x)) (k .2)
       (size-by m x (rangeGiven m x) (k .0) (type-is (x .kind) (k .0) (k .1)))
 
-  allowed-judges : Judges (allowedOf T sender m room a)
-      (fault 19 0 (Reads m (Foreign (T .owners) sender m)) ∷ fault 20 0 (Reads m (Illegal (T .states) m)) ∷ fault 21 0 (Reads m (Taken (T .states))) ∷ fault 13 0 (Reads m (NoRoom m room)) ∷ [])
-  unfolding allowedOf
-  allowed-judges =
+  permitted-judges : Judges (permittedOf T sender a)
+      (fault 19 0 (Reads m (Foreign (T .owners) sender m)) ∷ fault 20 0 (Reads m (Illegal (T .states) m)) ∷ fault 21 0 (Reads m (Taken (T .states))) ∷ [])
+  unfolding permittedOf
+  permitted-judges =
       judges-if (isFound (firstForeign (T .owners) sender (a .circuit) (a .range + 1)))
       (λ t.
       let s = found-some (isMine (T .owners) sender) (a .circuit) (a .range + 1) t in
@@ -127,11 +131,24 @@ module _ (T : Tables) (sender : ℕ) (m : List ℕ) (room : ℕ) (x : Message) (
       judges-if (isTaken (T .states) (a .act) (a .circuit))
       (λ v. (x, f, taken-cases (T .states) m x a k .0 v))
       (λ v h. taken-cases (T .states) m x a k .1 v (of-reads m x f (Taken (T .states)) h))
-      (λ v.
-      judges-if (ltb room (length (replyOf m a)))
-      (λ w. (x, f, omega (arith, ltb-true room (length (replyOf m a)) w, reply-size)))
-      (λ w h. omega (arith, of-reads m x f (NoRoom m room) h, ltb-false room (length (replyOf m a)) w, reply-size))
-      (λ w. judges-done a))))
+      (λ v. judges-done a)))
+
+  roomed-judges : Judges (roomed T m room a) (fault 13 0 (Reads m (NoRoom m room)) ∷ [])
+  roomed-judges =
+      judges-if (ltb room (length (replyOf (T .states) m a)))
+      (λ w. (x, f, omega (arith, ltb-true room (length (replyOf (T .states) m a)) w, reply-size)))
+      (λ w h. omega (arith, of-reads m x f (NoRoom m room) h, ltb-false room (length (replyOf (T .states) m a)) w, reply-size))
+      (λ w. judges-done a)
+
+  allowed-judges : Judges (allowedOf T sender m room a)
+      (fault 19 0 (Reads m (Foreign (T .owners) sender m)) ∷ fault 20 0 (Reads m (Illegal (T .states) m)) ∷ fault 21 0 (Reads m (Taken (T .states))) ∷ fault 13 0 (Reads m (NoRoom m room)) ∷ [])
+  unfolding allowedOf
+  allowed-judges =
+      judges-then (permittedOf T sender a) (roomed T m room)
+      (fault 19 0 (Reads m (Foreign (T .owners) sender m)) ∷ fault 20 0 (Reads m (Illegal (T .states) m)) ∷ fault 21 0 (Reads m (Taken (T .states))) ∷ [])
+      (fault 13 0 (Reads m (NoRoom m room)) ∷ [])
+      permitted-judges
+      (λ b e. subst (λ (y : Ask). Judges (roomed T m room y) (fault 13 0 (Reads m (NoRoom m room)) ∷ [])) (permitted T sender a b e .0) roomed-judges)
 
 -- a call is refused with the first of its faults, with the octet that it is about, and accepted exactly where there is none
 pub act-judges : (T : Tables) (sender : ℕ) (m : List ℕ) (room : ℕ) → Judges (grantOf T sender m room) (actFaults T sender m room)
@@ -173,7 +190,7 @@ module _ (T : Tables) (sender : ℕ) (m buffer : List ℕ) where
   answered (refused k q) n at = (λ e. refused-as e, λ e. refused-as e)
 
   accepts : (g : Answer Ask) → ((n : ℕ) × (carriedOut T m buffer g .answer ≡ accepted n)) ↔ ((a : Ask) × (g ≡ accepted a))
-  accepts (accepted a) = (λ e. (a, refl), λ h. (length (replyOf m a), refl))
+  accepts (accepted a) = (λ e. (a, refl), λ h. (length (replyOf (T .states) m a), refl))
   accepts (refused k at) = (λ e. absurd (refused-accepted (e .1)), λ h. absurd (refused-accepted (h .1)))
 
   pub act-refuses-exactly : (n at : ℕ) → (actOf T sender m buffer .answer ≡ refused n at) ↔ First (actFaults T sender m (length buffer)) n at

@@ -8,7 +8,6 @@ pub mod Called
 pub mod Determined
 pub mod Local
 pub mod Legality
-pub mod Status
 pub mod Rules
 pub mod ReadBack
 pub mod Refutations

@@ -9,9 +9,10 @@ use lib.ListN.{length}
 use Rattle.octets.specs.Octet.{octet}
 use Rattle.octets.specs.Choice.{if_then_else_}
 use Rattle.octets.specs.Answer.{Answer, accepted, refused}
+use Rattle.octets.specs.Filled.{filled}
 use Rattle.octets.proofs.Answer.{accepted-same, then-same}
 use Rattle.rows.specs.declared.Act.{Act}
-use Rattle.rows.specs.declared.Act.the-variants.{Seize, Release, Reset, Block, Unblock, ResetGroup, BlockGroup, UnblockGroup}
+use Rattle.rows.specs.declared.Act.the-variants.{Seize, Release, Reset, Block, Unblock, ResetGroup, BlockGroup, UnblockGroup, Query}
 use Rattle.rows.specs.Rows.{isLegal}
 use Rattle.asks.specs.declared.Ask.{Ask}
 use Rattle.hub.specs.Tables.{Tables}
@@ -19,9 +20,10 @@ use Rattle.asks.specs.Asks.{askOf}
 use Rattle.hub.specs.Rights.{isMine, firstForeign, firstIllegal, isFound}
 use Rattle.hub.specs.Rows.{effect}
 use Rattle.hub.specs.Replies.{replyOf}
-use Rattle.hub.specs.Acts.{isTaken, allowedOf, grantOf, carriedOut, actOf}
+use Rattle.hub.specs.Acts.{isTaken, permittedOf, roomed, allowedOf, grantOf, carriedOut, actOf}
 use Rattle.hub.specs.Names.{Named, Names}
 use Rattle.hub.proofs.Meaning.{search-same}
+use Rattle.hub.proofs.Writing.{length-reply, reply-alike}
 use Rattle.hub.proofs.Given.{granted, grant-sized}
 use Rattle.hub.proofs.Called.{row-inside, asks-so, reaches}
 
@@ -39,11 +41,16 @@ taken-same s t Unblock c e = refl
 taken-same s t ResetGroup c e = refl
 taken-same s t BlockGroup c e = refl
 taken-same s t UnblockGroup c e = refl
+taken-same s t Query c e = refl
 
 module _ (T U : Tables) (sender : ℕ) (m : List ℕ) where
+  -- whether there is room does not depend on the rows
+  roomed-same : (room : ℕ) (a : Ask) → roomed T m room a ≡ roomed U m room a
+  roomed-same room a = ap (λ (n : ℕ). if ltb room n then refused 13 0 else accepted a) (length-reply (T .states) m a ∙ sym (length-reply (U .states) m a))
+
   -- the checks look at the named rows alone
   pub allowed-same : (room : ℕ) (a : Ask) → ((c : ℕ) → Named a c → (octet (T .states) c ≡ octet (U .states) c) × (octet (T .owners) c ≡ octet (U .owners) c)) → allowedOf T sender m room a ≡ allowedOf U sender m room a
-  unfolding allowedOf
+  unfolding allowedOf permittedOf
   allowed-same room a h =
       let f : firstForeign (T .owners) sender (a .circuit) (a .range + 1) ≡ firstForeign (U .owners) sender (a .circuit) (a .range + 1) =
       search-same (isMine (T .owners) sender) (isMine (U .owners) sender) (a .circuit) (a .range + 1)
@@ -53,12 +60,13 @@ module _ (T U : Tables) (sender : ℕ) (m : List ℕ) where
       (λ j p q. ap isLegal (h j (p, omega arith) .0)) in
       let t : isTaken (T .states) (a .act) (a .circuit) ≡ isTaken (U .states) (a .act) (a .circuit) =
       taken-same (T .states) (U .states) (a .act) (a .circuit) (h (a .circuit) (omega arith, omega arith) .0) in
-      λ i.
+      then-same (permittedOf T sender a)
+      (λ i.
       if isFound (f i) then refused 19 0
       else if isFound (l i) then refused 20 0
       else if t i then refused 21 0
-      else if ltb room (length (replyOf m a)) then refused 13 0
-      else accepted a
+      else accepted a)
+      (λ b e. roomed-same room b)
 
   module _ (p : length (T .states) ≡ 4096) (p′ : length (U .states) ≡ 4096) (q : length (T .owners) ≡ 4096) (q′ : length (U .owners) ≡ 4096) (agree : AgreeOn m T U) where
     grant-same : (room : ℕ) → grantOf T sender m room ≡ grantOf U sender m room
@@ -68,9 +76,16 @@ module _ (T U : Tables) (sender : ℕ) (m : List ℕ) where
         ∙ sym (grant-sized U sender m room p′ q′)
 
     module _ (buffer : List ℕ) where
-      answer-cases : (g : Answer Ask) → (carriedOut T m buffer g .answer ≡ carriedOut U m buffer g .answer) × (carriedOut T m buffer g .buffer ≡ carriedOut U m buffer g .buffer)
-      answer-cases (accepted a) = (refl, refl)
-      answer-cases (refused n at) = (refl, refl)
+      -- the answer is from the named rows alone
+      reply-cases : (a : Ask) → grantOf T sender m (length buffer) ≡ accepted a → replyOf (T .states) m a ≡ replyOf (U .states) m a
+      reply-cases a e =
+          let g = granted T sender m (length buffer) a e in
+          let r = reaches T sender m buffer a g in
+          reply-alike (T .states) (U .states) m a (omega arith) (omega arith) (λ c n. agree c (a, asks-so T sender m buffer a g, n) .0)
+
+      answer-cases : (g : Answer Ask) → grantOf T sender m (length buffer) ≡ g → (carriedOut T m buffer g .answer ≡ carriedOut U m buffer g .answer) × (carriedOut T m buffer g .buffer ≡ carriedOut U m buffer g .buffer)
+      answer-cases (accepted a) e = (ap (λ (o : List ℕ). accepted (length o)) (reply-cases a e), ap (λ (o : List ℕ). filled o buffer) (reply-cases a e))
+      answer-cases (refused n at) e = (refl, refl)
 
       row-cases : (g : Answer Ask) → grantOf T sender m (length buffer) ≡ g → (c : ℕ) → Names m c → octet (carriedOut T m buffer g .states) c ≡ octet (carriedOut U m buffer g .states) c
       row-cases (accepted a) e c n =
@@ -85,14 +100,14 @@ module _ (T U : Tables) (sender : ℕ) (m : List ℕ) where
       pub local-answer : actOf T sender m buffer .answer ≡ actOf U sender m buffer .answer
       unfolding actOf
       local-answer =
-          answer-cases (grantOf T sender m (length buffer)) .0
+          answer-cases (grantOf T sender m (length buffer)) refl .0
           ∙ ap (λ g. carriedOut U m buffer g .answer) (grant-same (length buffer))
 
       -- the buffer afterwards is the same
       pub local-buffer : actOf T sender m buffer .buffer ≡ actOf U sender m buffer .buffer
       unfolding actOf
       local-buffer =
-          answer-cases (grantOf T sender m (length buffer)) .1
+          answer-cases (grantOf T sender m (length buffer)) refl .1
           ∙ ap (λ g. carriedOut U m buffer g .buffer) (grant-same (length buffer))
 
       -- the named rows afterwards are the same

@@ -12,6 +12,7 @@ use lib.Seq.{ext-getD}
 use Rattle.octets.specs.Octet.{octet}
 use Rattle.octets.specs.Choice.{if_then_else_}
 use Rattle.octets.specs.Answer.{Answer, accepted, refused, _then_}
+use Rattle.octets.specs.Filled.{filled}
 use Rattle.octets.proofs.Answer.{then-same}
 use Rattle.octets.proofs.Choice.{chosen, true-false}
 use Rattle.rows.specs.Rows.{isLegal, Legal}
@@ -24,10 +25,12 @@ use Rattle.arrival.proofs.Isolation.{own-has, own-answers, own-rows, others-sta
 use Rattle.hub.specs.Tables.{Tables, tables, sized}
 use Rattle.hub.specs.Rights.{isMine, firstForeign, isFound}
 use Rattle.hub.specs.Rows.{effect}
+use Rattle.hub.specs.Replies.{replyOf}
 use Rattle.hub.specs.Acts.{allowedOf, grantOf, carriedOut, actOf}
 use Rattle.hub.specs.Names.{Mine}
 use Rattle.hub.specs.Arrival.{Call, holdsOf, hub}
 use Rattle.hub.proofs.Meaning.{mine-is, found-none}
+use Rattle.hub.proofs.Writing.{reply-alike}
 use Rattle.hub.proofs.Given.{granted, allow-foreign}
 use Rattle.hub.proofs.Called.{row-inside, row-outside, named-or, reaches, states-length, names-mine, only-mine, call-accepted, act-keeps, answer-or}
 use Rattle.hub.proofs.Local.{allowed-same}
@@ -80,9 +83,17 @@ module _ (owners : List ℕ) (sender : ℕ) (m : List ℕ) (s t : List ℕ) (lon
         (λ h. row-outside m a s i h ∙ agree i z ∙ sym (row-outside m a t i h))
         (named-or a i)
 
-    same-back : (g : Answer Ask) → (carriedOut (tables s owners) m buffer g .answer ≡ carriedOut (tables t owners) m buffer g .answer) × (carriedOut (tables s owners) m buffer g .buffer ≡ carriedOut (tables t owners) m buffer g .buffer)
-    same-back (accepted a) = (refl, refl)
-    same-back (refused n at) = (refl, refl)
+    -- the answer is from the sender's rows alone
+    reply-back : (a : Ask) → grantOf (tables s owners) sender m (length buffer) ≡ accepted a → replyOf s m a ≡ replyOf t m a
+    reply-back a e =
+        let g = granted (tables s owners) sender m (length buffer) a e in
+        let r = reaches (tables s owners) sender m buffer a g in
+        reply-alike s t m a (omega (arith, g .states-sized)) (omega (arith, g .states-sized, long))
+        (λ c n. agree c (holds-own owners sender c (omega (arith, n .1)) (names-mine (tables s owners) sender m buffer a g c n .0)))
+
+    same-back : (g : Answer Ask) → grantOf (tables s owners) sender m (length buffer) ≡ g → (carriedOut (tables s owners) m buffer g .answer ≡ carriedOut (tables t owners) m buffer g .answer) × (carriedOut (tables s owners) m buffer g .buffer ≡ carriedOut (tables t owners) m buffer g .buffer)
+    same-back (accepted a) e = (ap (λ (o : List ℕ). accepted (length o)) (reply-back a e), ap (λ (o : List ℕ). filled o buffer) (reply-back a e))
+    same-back (refused n at) e = (refl, refl)
 
     pub acts-alike : (actOf (tables s owners) sender m buffer .answer ≡ actOf (tables t owners) sender m buffer .answer)
         × (actOf (tables s owners) sender m buffer .buffer ≡ actOf (tables t owners) sender m buffer .buffer)
@@ -91,8 +102,8 @@ module _ (owners : List ℕ) (sender : ℕ) (m : List ℕ) (s t : List ℕ) (lon
     acts-alike =
         let g = grantOf (tables s owners) sender m (length buffer) in
         let q = granted-alike (length buffer) in (
-          same-back (grantOf (tables s owners) sender m (length buffer)) .0 ∙ ap (λ x. carriedOut (tables t owners) m buffer x .answer) q,
-          same-back (grantOf (tables s owners) sender m (length buffer)) .1 ∙ ap (λ x. carriedOut (tables t owners) m buffer x .buffer) q,
+          same-back (grantOf (tables s owners) sender m (length buffer)) refl .0 ∙ ap (λ x. carriedOut (tables t owners) m buffer x .answer) q,
+          same-back (grantOf (tables s owners) sender m (length buffer)) refl .1 ∙ ap (λ x. carriedOut (tables t owners) m buffer x .buffer) q,
           λ i z. rows-alike (grantOf (tables s owners) sender m (length buffer)) refl i z ∙ ap (λ x. octet (carriedOut (tables t owners) m buffer x .states) i) q,
         )
 

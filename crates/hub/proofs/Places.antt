@@ -9,7 +9,7 @@ use lib.Dec.{ltb}
 use lib.ListN.{length}
 use Rattle.octets.specs.Choice.{if_then_else_}
 use Rattle.octets.specs.Answer.{refused, _then_}
-use Rattle.octets.proofs.Places.{UpTo, up-to-accepted, up-to-refused, up-to-if, handed-on}
+use Rattle.octets.proofs.Places.{UpTo, up-to-accepted, up-to-refused, up-to-if, up-to-then, handed-on}
 use Rattle.isup.specs.Read.{readOf}
 use Rattle.isup.proofs.Places.{handed-within, others-placeless}
 use Rattle.asks.specs.declared.Ask.{Ask}
@@ -18,17 +18,18 @@ use Rattle.asks.proofs.Places.{ask-hands-on}
 use Rattle.hub.specs.Tables.{Tables, sized}
 use Rattle.hub.specs.Rights.{firstForeign, firstIllegal, isFound}
 use Rattle.hub.specs.Replies.{replyOf}
-use Rattle.hub.specs.Acts.{isTaken, allowedOf, grantOf, after, actOf}
+use Rattle.hub.specs.Acts.{isTaken, permittedOf, roomed, allowedOf, grantOf, after, actOf}
 use Rattle.hub.proofs.Given.{grant-sized}
 use Rattle.hub.proofs.Judged.{answered}
 
 allowed-placeless : (T : Tables) (sender : ℕ) (m : List ℕ) (room : ℕ) (a : Ask) → UpTo 0 (allowedOf T sender m room a)
-unfolding allowedOf
+unfolding allowedOf permittedOf
 allowed-placeless T sender m room a =
-    up-to-if _ (isFound (firstForeign (T .owners) sender (a .circuit) (a .range + 1))) (λ _. up-to-refused _ 19 0 (omega arith))
+    up-to-then _ (permittedOf T sender a) (roomed T m room)
+    (up-to-if _ (isFound (firstForeign (T .owners) sender (a .circuit) (a .range + 1))) (λ _. up-to-refused _ 19 0 (omega arith))
     (λ _. up-to-if _ (isFound (firstIllegal (T .states) (a .circuit) (a .range + 1))) (λ _. up-to-refused _ 20 0 (omega arith))
-    (λ _. up-to-if _ (isTaken (T .states) (a .act) (a .circuit)) (λ _. up-to-refused _ 21 0 (omega arith))
-    (λ _. up-to-if _ (ltb room (length (replyOf m a))) (λ _. up-to-refused _ 13 0 (omega arith)) (λ _. up-to-accepted _ _))))
+    (λ _. up-to-if _ (isTaken (T .states) (a .act) (a .circuit)) (λ _. up-to-refused _ 21 0 (omega arith)) (λ _. up-to-accepted _ _))))
+    (λ b e. up-to-if _ (ltb room (length (replyOf (T .states) m b))) (λ _. up-to-refused _ 13 0 (omega arith)) (λ _. up-to-accepted _ _))
 
 module _ (T : Tables) (sender : ℕ) (m buffer : List ℕ) (n at : ℕ) where
   -- where the tables are of the right length the reader's refusal is the call's, octet and all

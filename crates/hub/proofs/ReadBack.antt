@@ -1,123 +1,104 @@
 -- An answer that has octets reads, in the compact form: it carries the circuit of the message, and its type is the one that answers.
-use Prim.Native.Nat.{ℕ, suc, _+_, _/_, _%_, _≤_, _<_}
+use Prim.Native.Nat.{ℕ, _+_}
 use mathlib.Core.Path.{_≡_, refl, sym, _∙_, ap, subst}
-use mathlib.Core.Bool.{true, false}
-use mathlib.Core.List.{List, [], _∷_, _++_, append-nil}
-use mathlib.Core.Logic.{⊎-elim}
+use mathlib.Core.List.{List, [], _∷_}
 use native.Mathlib.Omega.{arith}
-use native.Mathlib.Nat.{div-lt-iff-lt-mul}
-use borrow.Author.Tests.{le-ltb}
-use lib.ListN.{length, take}
-use Rattle.octets.specs.Octet.{AllOctets}
-use Rattle.octets.specs.Answer.{accepted}
+use lib.ListN.{take}
+use Rattle.octets.specs.Octet.{AllOctets, octets}
 use Rattle.octets.proofs.Filled.{take-filled}
-use Rattle.layout.specs.declared.Row.the-variants.{Has}
 use Rattle.isup.specs.declared.Message.{Message}
-use Rattle.isup.specs.Table.{shapeOf}
-use Rattle.runs.specs.Run.{stepAt, stops, stopFrom, isRun}
-use Rattle.measuring.specs.Measure.{unfitOf}
-use Rattle.writing.specs.Write.{pointers, ahead, variables, runPointer, closedRun, formOf, marks, exceeds, writtenOf}
-use Rattle.isup.specs.Read.{readOf}
-use Rattle.isup.specs.Write.{writeIn}
-use Rattle.isup.specs.Compact.{CompactForm}
-use Rattle.isup.proofs.WriteBack.{write-reads-back-in}
+use Rattle.isup.specs.Types.{IAM, CQM, CQR}
 use Rattle.rows.specs.declared.Act.{Act}
-use Rattle.rows.specs.declared.Act.the-variants.{Release, Reset, Block, Unblock, ResetGroup, BlockGroup, UnblockGroup}
+use Rattle.rows.specs.declared.Act.the-variants.{Seize, Release, Reset, Block, Unblock, ResetGroup, BlockGroup, UnblockGroup, Query}
 use Rattle.asks.specs.declared.Ask.{Ask}
-use Rattle.isup.specs.Types.{IAM, RLC, BLA, UBA, CGBA, CGUA, GRA}
 use Rattle.asks.specs.Types.{typeOf}
-use Rattle.asks.specs.Asks.{width, rangeIn, askIn}
+use Rattle.asks.specs.Asks.{rangeIn, askIn}
+use Rattle.asks.proofs.Types.{type-is}
+use Rattle.asks.proofs.Reading.{ask-sound}
+use Rattle.asks.proofs.Judged.{asked-names}
+use Rattle.replies.specs.Replies.{statesFrom}
+use Rattle.replies.specs.Rules.{answerKind, fixedIn, firstIn, secondIn, ReadsAs, States}
+use Rattle.replies.proofs.Status.{states-shown}
+use Rattle.replies.proofs.ReadBack.{answer-reads}
 use Rattle.hub.specs.Tables.{Tables}
-use Rattle.hub.specs.Replies.{replyOf}
+use Rattle.hub.specs.Replies.{statusIn, replyOf}
 use Rattle.hub.specs.Acts.{actOf}
 use Rattle.hub.specs.Rules.{Accepts, answerType}
-use Rattle.hub.proofs.Writing.{length-status}
-use Rattle.hub.proofs.Rules.{called, asks, acts-so}
 use Rattle.hub.proofs.Called.{reaches}
+use Rattle.hub.proofs.Rules.{states-in, called, asked, asks}
 
--- the octets read as a message with that circuit and that type, in the compact form
-abbrev pub ReadsAs : List ℕ → ℕ → ℕ → Type 0
-ReadsAs octets circuit type = (y : Message) × (readOf octets ≡ accepted y) × CompactForm octets y × (y .circuit ≡ circuit) × (y .kind ≡ type)
+-- the type that answers a type is the one that answers its act
+kind-answers : (act : Act) → answerType (typeOf act) ≡ answerKind act
+unfolding answerType
+kind-answers Seize = refl
+kind-answers Release = refl
+kind-answers Reset = refl
+kind-answers Block = refl
+kind-answers Unblock = refl
+kind-answers ResetGroup = refl
+kind-answers BlockGroup = refl
+kind-answers UnblockGroup = refl
+kind-answers Query = refl
 
--- what the writer would write reads so
-reads-written : (circuit type : ℕ) (fixed first octets : List ℕ) → writeIn circuit type fixed first [] [] ≡ accepted (length octets, octets) → ReadsAs octets circuit type
-reads-written circuit type fixed first octets e =
-    let r = write-reads-back-in circuit type fixed first [] [] (length octets) octets e .1 in
-    (r .0, r .1, r .2, r .3 .circuit, r .3 .kind)
-
-module _ (circuit : ℕ) (low : circuit ≤ 4095) where
-  -- a circuit and a type alone
-  plain-formed : (t : ℕ) → t ≤ 255 → shapeOf t ≡ Has (record { fixed = 0; vars = 0; opt = false }) → ReadsAs ((circuit % 256) ∷ (circuit / 256) ∷ t ∷ []) circuit t
-  unfolding writeIn writtenOf unfitOf isRun stopFrom stops stepAt marks exceeds formOf pointers ahead variables runPointer closedRun
-  plain-formed t k h = reads-written circuit t [] [] _ (rw (le-ltb _ _ low, le-ltb _ _ k, h) refl)
-
-  -- an optional part that is not there
-  optional-formed : (t : ℕ) → t ≤ 255 → shapeOf t ≡ Has (record { fixed = 0; vars = 0; opt = true }) → ReadsAs ((circuit % 256) ∷ (circuit / 256) ∷ t ∷ 0 ∷ []) circuit t
-  unfolding writeIn writtenOf unfitOf isRun stopFrom stops stepAt marks exceeds formOf pointers ahead variables runPointer closedRun
-  optional-formed t k h = reads-written circuit t [] [] _ (rw (le-ltb _ _ low, le-ltb _ _ k, h) refl)
-
-  -- range and status as the one variable part
-  status-formed : (t r : ℕ) (status : List ℕ) → t ≤ 255 → shapeOf t ≡ Has (record { fixed = 0; vars = 1; opt = false }) → length status ≡ width r → width r ≤ 32
-      → ReadsAs ((circuit % 256) ∷ (circuit / 256) ∷ t ∷ 1 ∷ (1 + width r) ∷ r ∷ status) circuit t
-  unfolding writeIn writtenOf unfitOf isRun stopFrom stops stepAt marks exceeds formOf pointers ahead variables runPointer closedRun
-  status-formed t r status k h e few =
-      let a : suc (length status) ≤ 255 = omega arith in
-      let b : suc (suc (suc (suc (suc (suc (length status)))))) ≤ 268 = omega arith in
-      let n : suc (length status) ≡ 1 + width r = omega arith in
-      let q : (status ++ []) ++ [] ≡ status = append-nil (status ++ []) ∙ append-nil status in
-      subst (λ (c : ℕ). ReadsAs ((circuit % 256) ∷ (circuit / 256) ∷ t ∷ 1 ∷ c ∷ r ∷ status) circuit t) n
-      (reads-written circuit t [] (r ∷ status) _ (rw (le-ltb _ _ low, le-ltb _ _ k, h) (simp (le-ltb _ _ a) (rw q (simp (le-ltb _ _ b))))))
-
-  -- the same after an indicator
-  group-formed : (t i r : ℕ) (status : List ℕ) → t ≤ 255 → shapeOf t ≡ Has (record { fixed = 1; vars = 1; opt = false }) → length status ≡ width r → width r ≤ 32
-      → ReadsAs ((circuit % 256) ∷ (circuit / 256) ∷ t ∷ i ∷ 1 ∷ (1 + width r) ∷ r ∷ status) circuit t
-  unfolding writeIn writtenOf unfitOf isRun stopFrom stops stepAt marks exceeds formOf pointers ahead variables runPointer closedRun
-  group-formed t i r status k h e few =
-      let a : suc (length status) ≤ 255 = omega arith in
-      let b : suc (suc (suc (suc (suc (suc (suc (length status))))))) ≤ 268 = omega arith in
-      let n : suc (length status) ≡ 1 + width r = omega arith in
-      let q : (status ++ []) ++ [] ≡ status = append-nil (status ++ []) ∙ append-nil status in
-      subst (λ (c : ℕ). ReadsAs ((circuit % 256) ∷ (circuit / 256) ∷ t ∷ i ∷ 1 ∷ c ∷ r ∷ status) circuit t) n
-      (reads-written circuit t (i ∷ []) (r ∷ status) _ (rw (le-ltb _ _ low, le-ltb _ _ k, h) (simp (le-ltb _ _ a) (rw q (simp (le-ltb _ _ b))))))
+-- what is asked for by an act is that act
+act-of : (act : Act) (m : List ℕ) (x : Message) → askIn act m x .act ≡ act
+act-of Seize m x = refl
+act-of Release m x = refl
+act-of Reset m x = refl
+act-of Block m x = refl
+act-of Unblock m x = refl
+act-of ResetGroup m x = refl
+act-of BlockGroup m x = refl
+act-of UnblockGroup m x = refl
+act-of Query m x = refl
 
 module _ (T : Tables) (sender : ℕ) (m buffer : List ℕ) (x : Message) (n : ℕ) (ok : Accepts T sender m buffer x n) (octets-in : AllOctets m) where
-  -- what stands at the buffer's front
-  front-is : (act : Act) → x .kind ≡ typeOf act → take n (actOf T sender m buffer .buffer) ≡ replyOf m (askIn act m x)
-  front-is act e =
+  -- the type of the message is that of the act that was granted
+  kind-is : x .kind ≡ typeOf (called T sender m buffer x n ok .ask .act)
+  kind-is =
+      let w = asked T sender m buffer x n ok in
+      type-is (x .kind) (w .act) (w .acts) ∙ ap typeOf (sym (act-of (w .act) m x) ∙ ap (λ (b : Ask). b .act) (w .is))
+
+  -- what stands at the buffer's front reads so
+  front-reads : (x .kind ≡ IAM → ⊥) →
+      let a = called T sender m buffer x n ok .ask in
+      ReadsAs (take n (actOf T sender m buffer .buffer)) (a .circuit) (answerKind (a .act)) (fixedIn (a .act) (a .block)) (firstIn (a .act) (a .range) (statusIn m (a .status) (a .range))) (secondIn (a .act) (a .range) (octets (T .states) (a .circuit) (a .range + 1)))
+  unfolding replyOf
+  front-reads out =
       let d = called T sender m buffer x n ok in
-      ap (take n) (d .front) ∙ take-filled (replyOf m (d .ask)) buffer n (d .count) ∙ ap (replyOf m) (asks T sender m buffer x n ok act e)
-
-  reads-as : (act : Act) → x .kind ≡ typeOf act → (octets : List ℕ) (t : ℕ) → replyOf m (askIn act m x) ≡ octets → ReadsAs octets (x .circuit) t → ReadsAs (take n (actOf T sender m buffer .buffer)) (x .circuit) t
-  reads-as act e octets t q r = subst (λ (o : List ℕ). ReadsAs o (x .circuit) t) (sym (front-is act e ∙ q)) r
-
-  circuit-low : (act : Act) → x .kind ≡ typeOf act → askIn act m x .circuit ≤ 4095
-  circuit-low act e =
-      let d = called T sender m buffer x n ok in
-      let l = reaches T sender m buffer (d .ask) (d .allowed) in
-      subst (λ (b : Ask). b .circuit ≤ 4095) (asks T sender m buffer x n ok act e) (omega arith)
-
-  -- the range is an octet, so its status has 32 octets at the most
-  few : width (rangeIn m (x .parts .first)) ≤ 32
-  few = let h : rangeIn m (x .parts .first) / 8 < 32 = div-lt-iff-lt-mul {k = 8} {y = 32} (omega arith) .1 (omega (arith, octets-in (x .parts .first .from))) in omega arith
+      let a = d .ask in
+      let s = ask-sound m a octets-in (d .allowed .asks) in
+      let low = reaches T sender m buffer a (d .allowed) in
+      let front : take n (actOf T sender m buffer .buffer) ≡ replyOf (T .states) m (d .ask) = ap (take n) (d .front) ∙ take-filled (replyOf (T .states) m (d .ask)) buffer n (d .count) in
+      rw front
+      (answer-reads (a .act) (a .circuit) (a .range) (a .block) _ _ (omega arith) (s .few) (s .fewer) (λ e. out (kind-is ∙ ap typeOf e)))
 
   -- an answer that has octets reads, with circuit m and the type that answers, and is in the compact form
-  pub reply-reads : (x .kind ≡ IAM → ⊥) → ReadsAs (take n (actOf T sender m buffer .buffer)) (x .circuit) (answerType (x .kind))
-  unfolding answerType replyOf shapeOf
+  pub reply-reads : (x .kind ≡ IAM → ⊥) → (fixed : List ℕ) × (first : List ℕ) × (second : List ℕ) × ReadsAs (take n (actOf T sender m buffer .buffer)) (x .circuit) (answerType (x .kind)) fixed first second
   reply-reads out =
-      ⊎-elim (λ e. absurd (out e))
-      (⊎-elim
-      (λ e. rw e (reads-as Release e _ RLC refl (optional-formed (x .circuit) (circuit-low Release e) RLC (omega arith) refl)))
-      (⊎-elim
-      (λ e. rw e (reads-as Reset e _ RLC refl (optional-formed (x .circuit) (circuit-low Reset e) RLC (omega arith) refl)))
-      (⊎-elim
-      (λ e. rw e (reads-as Block e _ BLA refl (plain-formed (x .circuit) (circuit-low Block e) BLA (omega arith) refl)))
-      (⊎-elim
-      (λ e. rw e (reads-as Unblock e _ UBA refl (plain-formed (x .circuit) (circuit-low Unblock e) UBA (omega arith) refl)))
-      (⊎-elim
-      (λ e. rw e (reads-as ResetGroup e _ GRA refl (status-formed (x .circuit) (circuit-low ResetGroup e) GRA _ _ (omega arith) refl (length-status m _ 0 _) few)))
-      (⊎-elim
-      (λ e. rw e (reads-as BlockGroup e _ CGBA refl (group-formed (x .circuit) (circuit-low BlockGroup e) CGBA _ _ _ (omega arith) refl (length-status m _ 0 _) few)))
-      (⊎-elim
-      (λ e. rw e (reads-as UnblockGroup e _ CGUA refl (group-formed (x .circuit) (circuit-low UnblockGroup e) CGUA _ _ _ (omega arith) refl (length-status m _ 0 _) few)))
-      (λ z. absurd z))))))))
-      (acts-so T sender m buffer x n ok)
+      let w = asked T sender m buffer x n ok in
+      let a = called T sender m buffer x n ok .ask in
+      let fixed = fixedIn (a .act) (a .block) in
+      let first = firstIn (a .act) (a .range) (statusIn m (a .status) (a .range)) in
+      let second = secondIn (a .act) (a .range) (octets (T .states) (a .circuit) (a .range + 1)) in
+      let c : a .circuit ≡ x .circuit = asked-names m x a (w .act, w .acts, w .is) .0 in
+      let t : answerKind (a .act) ≡ answerType (x .kind) = sym (kind-answers (a .act)) ∙ ap answerType (sym kind-is) in (
+        fixed,
+        first,
+        second,
+        subst (λ (k : ℕ). ReadsAs (take n (actOf T sender m buffer .buffer)) k (answerType (x .kind)) fixed first second) c
+            (subst (λ (k : ℕ). ReadsAs (take n (actOf T sender m buffer .buffer)) (a .circuit) k fixed first second) t (front-reads out)),
+      )
+
+  -- the answer to CQM reads as CQR with two contents: the range, and the circuit states
+  pub query-reads : x .kind ≡ CQM →
+      let r = rangeIn m (x .parts .first) in
+      (states : List ℕ) × States (T .states) (x .circuit) r states × ReadsAs (take n (actOf T sender m buffer .buffer)) (x .circuit) CQR [] (r ∷ []) states
+  query-reads e =
+      let r = rangeIn m (x .parts .first) in
+      let group = octets (T .states) (x .circuit) (r + 1) in (
+        statesFrom group 0 (r + 1),
+        states-in (T .states) (x .circuit) r _ (states-shown group r),
+        subst (λ (a : Ask). ReadsAs (take n (actOf T sender m buffer .buffer)) (a .circuit) (answerKind (a .act)) (fixedIn (a .act) (a .block)) (firstIn (a .act) (a .range) (statusIn m (a .status) (a .range))) (secondIn (a .act) (a .range) (octets (T .states) (a .circuit) (a .range + 1))))
+            (asks T sender m buffer x n ok Query e) (front-reads (λ i. let z : _≡_ {A = ℕ} 42 1 = sym e ∙ i in omega arith)),
+      )

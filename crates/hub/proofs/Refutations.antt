@@ -10,25 +10,27 @@ use lib.ListN.{length, replicate, length-replicate, getD-replicate}
 use Rattle.octets.specs.Octet.{octet}
 use Rattle.octets.specs.Choice.{if_then_else_}
 use Rattle.octets.specs.Answer.{Answer, accepted, refused, _then_}
-use Rattle.octets.proofs.Answer.{refused-same}
+use Rattle.octets.proofs.Answer.{refused-same, refused-accepted}
+use Rattle.layout.specs.Spans.{span}
 use Rattle.layout.specs.Container.{variableAt, optionalAt, variableSlot, optionalSlot, sharesOf, judged, held, containerOf, partsOf}
 use Rattle.isup.specs.Table.{shapeOf}
 use Rattle.isup.specs.Read.{readOf}
 use Rattle.asks.specs.declared.Ask.{Ask}
-use Rattle.rows.specs.declared.Act.the-variants.{Seize, Block}
+use Rattle.rows.specs.declared.Act.the-variants.{Seize, Block, Query}
 use Rattle.rows.specs.Rows.{isLegal, blockedRow, changedRow}
-use Rattle.isup.specs.Types.{IAM, BLO}
+use Rattle.isup.specs.Types.{IAM, BLO, CQM}
 use Rattle.asks.specs.Types.{actFor}
-use Rattle.asks.specs.Asks.{oneAsk, askedIn, askOf, markOf}
+use Rattle.asks.specs.Asks.{oneAsk, rangeAsk, brokenRange, askedIn, askOf, markOf}
 use Rattle.arrival.specs.Calls.{Calls, Apart, Merged, answersOf, callsOf}
 use Rattle.arrival.proofs.Isolation.{merged-so}
 use Rattle.hub.specs.Tables.{Tables, tables, sized}
 use Rattle.hub.specs.Rights.{firstNot, firstForeign, firstIllegal, isFound}
 use Rattle.octets.specs.Applied.{applied}
 use Rattle.hub.specs.Rows.{rowsAfter}
-use Rattle.hub.specs.Replies.{replyOf}
+use Rattle.replies.specs.Replies.{statesFrom}
+use Rattle.hub.specs.Replies.{statusIn, replyOf}
 use Rattle.hub.specs.Arrival.{Call, Reply, holdsOf}
-use Rattle.hub.specs.Acts.{isTaken, allowedOf, grantOf, After, after, carriedOut, actOf}
+use Rattle.hub.specs.Acts.{isTaken, permittedOf, allowedOf, grantOf, After, after, carriedOut, actOf}
 use Rattle.hub.proofs.Given.{grant-sized}
 use Rattle.hub.proofs.Called.{act-keeps}
 use Rattle.hub.proofs.Orders.{holds-is}
@@ -63,11 +65,11 @@ owned-sized sender = ap suc (length-replicate {A = ℕ} 4095 sender)
 abbrev markedFirst : Tables → ℕ → List ℕ → List ℕ → Answer Ask → After
 markedFirst T sender m buffer (refused n at) = after (refused n 0) (T .states) buffer
 markedFirst T sender m buffer (accepted a) =
-    if ltb (length buffer) (length (replyOf m a)) then after (refused 13 0) (rowsAfter m a (T .states)) buffer
+    if ltb (length buffer) (length (replyOf (T .states) m a)) then after (refused 13 0) (rowsAfter m a (T .states)) buffer
     else carriedOut T m buffer (accepted a)
 
 block-granted : grantOf (lent 0 1) 1 block 268 ≡ accepted (oneAsk Block 0)
-unfolding allowedOf firstNot isLegal replyOf
+unfolding allowedOf permittedOf firstNot isLegal replyOf
 block-granted =
     grant-sized (lent 0 1) 1 block 268 (rows-sized 0) (owned-sized 1)
     ∙ ap (λ z. z then allowedOf (lent 0 1) 1 block 268) block-asks
@@ -94,12 +96,12 @@ legalFirst T sender m room a =
     if isFound (firstIllegal (T .states) (a .circuit) (a .range + 1)) then refused 20 0
     else if isFound (firstForeign (T .owners) sender (a .circuit) (a .range + 1)) then refused 19 0
     else if isTaken (T .states) (a .act) (a .circuit) then refused 21 0
-    else if ltb room (length (replyOf m a)) then refused 13 0
+    else if ltb room (length (replyOf (T .states) m a)) then refused 13 0
     else accepted a
 
 -- a stranger's row is not legal: the wrong order tells the sender so, and the definition gives 19
 pub illegal-before-foreign : (askOf block then legalFirst (lent 5 2) 1 block 268) ≡ grantOf (lent 5 2) 1 block 268 → ⊥
-unfolding allowedOf firstNot isLegal
+unfolding allowedOf permittedOf firstNot isLegal
 illegal-before-foreign e =
     let r : refused 20 0 ≡ refused 19 0 =
     ap (λ z. z then legalFirst (lent 5 2) 1 block 268) (sym block-asks)
@@ -108,6 +110,33 @@ illegal-before-foreign e =
     ∙ ap (λ z. z then allowedOf (lent 5 2) 1 block 268) block-asks in
     let z : _≡_ {A = ℕ} 20 19 = refused-same {A = Ask} r .0 in
     omega arith
+
+-- ---- 20 not looked at
+abbrev unlooked : Tables → ℕ → List ℕ → ℕ → Ask → Answer Ask
+unlooked T sender m room a =
+    if isFound (firstForeign (T .owners) sender (a .circuit) (a .range + 1)) then refused 19 0
+    else if isTaken (T .states) (a .act) (a .circuit) then refused 21 0
+    else if ltb room (length (replyOf (T .states) m a)) then refused 13 0
+    else accepted a
+
+-- CQM for circuit 0
+abbrev query : List ℕ
+query = 0 ∷ 0 ∷ CQM ∷ 1 ∷ 1 ∷ 0 ∷ []
+
+query-asks : askOf query ≡ accepted (rangeAsk query Query 0 (span 5 6))
+unfolding askOf askedIn actFor brokenRange readOf partsOf containerOf variableSlot variableAt optionalSlot judged sharesOf shapeOf held
+query-asks = refl
+
+-- the sender's row is not legal: a hub that does not look answers with a state that no circuit has, and the definition gives 20
+pub illegal-untold : (askOf query then unlooked (lent 5 1) 1 query 268) ≡ grantOf (lent 5 1) 1 query 268 → ⊥
+unfolding allowedOf permittedOf firstNot isLegal replyOf statusIn statesFrom
+illegal-untold e =
+    let r : accepted (rangeAsk query Query 0 (span 5 6)) ≡ refused 20 0 =
+    ap (λ z. z then unlooked (lent 5 1) 1 query 268) (sym query-asks)
+    ∙ e
+    ∙ grant-sized (lent 5 1) 1 query 268 (rows-sized 5) (owned-sized 1)
+    ∙ ap (λ z. z then allowedOf (lent 5 1) 1 query 268) query-asks in
+    refused-accepted (sym r)
 
 -- ---- hubs that look at a stranger's row before they refuse
 -- the hub's calls with another test of what is allowed
@@ -190,7 +219,7 @@ ownerFirst = seizedBy 2 ∷ seizedBy 1 ∷ []
 -- two merges of the same lists, in which sender 1 has different answers: 19 where its call comes first, and 21 where it comes after sender 2's
 pub depends-on-the-merge : (ls : ℕ → List Call) × Merged hurried strangerFirst ls × Merged hurried ownerFirst ls
     × (answersOf hurried 1 strangerFirst (rows 0) ≡ answersOf hurried 1 ownerFirst (rows 0) → ⊥)
-unfolding callsOf answersOf allowedOf firstNot isLegal applied changedRow markOf replyOf
+unfolding callsOf answersOf allowedOf permittedOf firstNot isLegal applied changedRow markOf replyOf
 depends-on-the-merge = (
   (λ q. callsOf hurried q strangerFirst),
   merged-so hurried strangerFirst _ (λ q. refl),

@@ -1,44 +1,62 @@
 -- Each rule of 'Circuit rules' in its own words, of a call that is accepted.
-use Prim.Native.Nat.{ℕ, zero, suc, _+_, _/_, _%_, _≤_, _<_}
+use Prim.Native.Nat.{ℕ, _+_, _/_, _%_, _^_, _≤_, _<_}
 use mathlib.Core.Path.{_≡_, refl, sym, _∙_, ap, subst}
-use mathlib.Core.Bool.{Bool, false}
+use mathlib.Core.Bool.{Bool, true, false}
 use mathlib.Core.List.{List, [], _∷_}
 use mathlib.Core.Logic.{_⊎_, inl, inr, ⊎-elim}
 use native.Mathlib.Omega.{arith}
-use native.Mathlib.Nat.{add-zero}
-use borrow.Author.Tests.{eq-eqb, ne-eqb, eqb-true, ltb-true, ltb-false, not-false}
+use native.Mathlib.Nat.{add-zero, zero-add}
+use borrow.Author.Tests.{ne-eqb, eqb-true, ltb-true, ltb-false, not-false}
 use lib.Dec.{eqb, ltb}
 use lib.ListN.{length, replicate}
-use Rattle.octets.specs.Octet.{octet}
+use Rattle.octets.specs.Octet.{octet, octets}
 use Rattle.octets.specs.Filled.{filled}
 use Rattle.isup.specs.declared.Message.{Message}
-use Rattle.octets.specs.Among.{OneOf}
 use Rattle.octets.proofs.Answer.{accepted-same}
 use Rattle.octets.proofs.Choice.{decided}
+use Rattle.octets.proofs.Octet.{octets-octet}
 use Rattle.rows.specs.declared.Act.{Act}
-use Rattle.rows.specs.declared.Act.the-variants.{Seize, Release, Reset, Block, Unblock, ResetGroup, BlockGroup, UnblockGroup}
-use Rattle.rows.specs.Rows.{changedRow, rowOf}
+use Rattle.rows.specs.declared.Act.the-variants.{Seize, Release, Reset, Block, Unblock, ResetGroup, BlockGroup, UnblockGroup, Query}
+use Rattle.rows.specs.Rows.{isLegal, changedRow, rowOf, circuitState}
 use Rattle.rows.specs.Rules.{Seized, Released, Cleared, BlockedForMaintenance, UnblockedForMaintenance, BlockedForHardware, UnblockedForHardware}
+use Rattle.rows.specs.States.{SaysOfRow}
+use Rattle.rows.proofs.Legality.{legal-is}
+use Rattle.rows.proofs.States.{circuit-state-says}
 use Rattle.rows.proofs.Rules.{released, blocked-maintenance, unblocked-maintenance, blocked-hardware, unblocked-hardware}
 use Rattle.asks.specs.declared.Ask.{Ask}
-use Rattle.isup.specs.Types.{IAM, REL, RLC, RSC, BLO, UBL, BLA, UBA, GRS, CGB, CGU, CGBA, CGUA, GRA}
-use Rattle.asks.specs.Types.{acting, typeOf}
-use Rattle.asks.specs.Asks.{rangeIn, blockKind, width, broken, oneAsk, resetAsk, groupAsk, indicatorIn, askIn, bitAt, markOf}
-use Rattle.asks.proofs.Types.{for-type, type-is, one-acting}
-use Rattle.asks.proofs.Reading.{Asked, ask-as, WholeGroup, whole-group}
+use Rattle.isup.specs.Types.{IAM, REL, RLC, RSC, BLO, UBL, BLA, UBA, GRS, CGB, CGU, CGBA, CGUA, GRA, CQM, CQR}
+use Rattle.asks.specs.Types.{typeOf}
+use Rattle.asks.specs.Asks.{rangeIn, blockKind, width, broken, oneAsk, rangeAsk, groupAsk, indicatorIn, askIn, bitAt, markOf}
+use Rattle.asks.proofs.Types.{for-type}
+use Rattle.asks.proofs.Reading.{Asked, ask-as, range-rule, WholeGroup, whole-group}
 use Rattle.hub.specs.Tables.{Tables}
+use Rattle.hub.specs.Rights.{firstIllegal, isFound}
+use Rattle.replies.specs.Replies.{statusFrom, statesFrom, rangeAndStatus}
+use Rattle.replies.specs.Rules.{Marks, States}
+use Rattle.replies.proofs.Status.{status-marks, no-status, states-shown}
 use Rattle.hub.specs.Rows.{rowsAfter}
-use Rattle.hub.specs.Replies.{statusOctet, statusFrom, rangeAndStatus, replyOf}
+use Rattle.hub.specs.Replies.{statusIn, replyOf}
 use Rattle.hub.specs.Acts.{isTaken, actOf}
 use Rattle.hub.specs.Rules.{Changes, every, Answers, Acknowledges, Accepts}
 use Rattle.hub.proofs.Called.{Called, row-named, row-outside, call-accepted, reaches}
-use Rattle.hub.proofs.Status.{status-marks}
+use Rattle.hub.proofs.Meaning.{found-none}
+use Rattle.hub.proofs.Writing.{rows-queried}
 
--- a status of none is as many zero octets
-zeros : (m : List ℕ) (a : Ask) (j n : ℕ) → a .status ≡ 0 → statusFrom m a j n ≡ replicate n 0
-unfolding statusFrom statusOctet
-zeros m a j zero e = refl
-zeros m a j (suc n) e = rw (eq-eqb _ _ e) (ap (λ (l : List ℕ). 0 ∷ l) (zeros m a (suc j) n e))
+-- marks of a stretch of the message are marks of the message
+marks-in : (m : List ℕ) (from range : ℕ) (status : List ℕ) → Marks (octets m from (width range)) 0 range status → Marks m from range status
+unfolding bitAt
+marks-in m from range status k = record {
+  wide = k .wide;
+  marks = λ i h. k .marks i h ∙ ap (λ (o : ℕ). eqb (o / 2 ^ (i % 8) % 2) 1) (ap (octet (octets m from (width range))) (zero-add (i / 8)) ∙ octets-octet m from (width range) (i / 8) (omega arith));
+  spare = k .spare;
+}
+
+-- circuit states of a stretch of the rows are those of the rows
+pub states-in : (rows : List ℕ) (circuit range : ℕ) (states : List ℕ) → States (octets rows circuit (range + 1)) 0 range states → States rows circuit range states
+states-in rows circuit range states k = record {
+  wide = k .wide;
+  each = λ i h. k .each i h ∙ ap circuitState (ap (octet (octets rows circuit (range + 1))) (zero-add i) ∙ octets-octet rows circuit (range + 1) i (omega arith));
+}
 
 -- ---- an accepted call, by what its message asks
 module _ (T : Tables) (sender : ℕ) (m buffer : List ℕ) (x : Message) (n : ℕ) (ok : Accepts T sender m buffer x n) where
@@ -47,7 +65,7 @@ module _ (T : Tables) (sender : ℕ) (m buffer : List ℕ) (x : Message) (n : �
   called = call-accepted T sender m buffer n (ok .answer)
 
   -- what was granted is what the message asks
-  asked : Asked m x (called .ask)
+  pub asked : Asked m x (called .ask)
   asked = ask-as m x (called .ask) (ok .reads) (called .allowed .asks)
 
   -- by its type
@@ -60,9 +78,6 @@ module _ (T : Tables) (sender : ℕ) (m buffer : List ℕ) (x : Message) (n : �
   -- its contents keep their rule
   unbroken-so : (act : Act) → x .kind ≡ typeOf act → broken act m x ≡ false
   unbroken-so act e = ap (λ (k : Act). broken k m x) (sym (act-is act e)) ∙ asked .kept
-
-  pub acts-so : OneOf (x .kind) acting
-  acts-so = one-acting (x .kind) (asked .act) (type-is (x .kind) (asked .act) (asked .acts))
 
   group-whole : (x .kind ≡ CGB) ⊎ (x .kind ≡ CGU) → WholeGroup m (indicatorIn m x) (x .parts .first)
   group-whole k = whole-group m (indicatorIn m x) (x .parts .first) (⊎-elim (unbroken-so BlockGroup) (unbroken-so UnblockGroup) k)
@@ -87,9 +102,9 @@ module _ (T : Tables) (sender : ℕ) (m buffer : List ℕ) (x : Message) (n : �
       }
 
   -- the answer, where the message asks a
-  answers : (a : Ask) → called .ask ≡ a → (octets : List ℕ) → replyOf m a ≡ octets → Answers buffer (actOf T sender m buffer .buffer) n octets
+  answers : (a : Ask) → called .ask ≡ a → (octets : List ℕ) → replyOf (T .states) m a ≡ octets → Answers buffer (actOf T sender m buffer .buffer) n octets
   answers a e octets r =
-      let q = ap (replyOf m) e ∙ r in
+      let q = ap (replyOf (T .states) m) e ∙ r in
       (called .count ∙ ap length q, called .front ∙ ap (λ (o : List ℕ). filled o buffer) q)
 
   -- IAM: state must be 0, becomes 1; no answer octets
@@ -138,12 +153,12 @@ module _ (T : Tables) (sender : ℕ) (m buffer : List ℕ) (x : Message) (n : �
       let r = rangeIn m (x .parts .first) in
       Changes (T .states) (actOf T sender m buffer .states) (x .circuit) r every Cleared
       × Answers buffer (actOf T sender m buffer .buffer) n ((x .circuit % 256) ∷ (x .circuit / 256) ∷ GRA ∷ 1 ∷ (1 + width r) ∷ r ∷ replicate (width r) 0)
-  unfolding markOf changedRow replyOf
+  unfolding markOf changedRow replyOf statusIn
   grs-rule e =
-      let a : Ask = resetAsk m (x .circuit) (x .parts .first) in
+      let a : Ask = rangeAsk m ResetGroup (x .circuit) (x .parts .first) in
       let q = asks ResetGroup e in (
         changes a q Cleared (λ i l. refl),
-        answers a q _ (ap (λ (l : List ℕ). (x .circuit % 256) ∷ (x .circuit / 256) ∷ GRA ∷ 1 ∷ (1 + width (rangeIn m (x .parts .first))) ∷ rangeIn m (x .parts .first) ∷ l) (zeros m a 0 (width (rangeIn m (x .parts .first))) refl)),
+        answers a q _ (ap (λ (l : List ℕ). (x .circuit % 256) ∷ (x .circuit / 256) ∷ GRA ∷ 1 ∷ (1 + width (rangeIn m (x .parts .first))) ∷ rangeIn m (x .parts .first) ∷ l) (no-status (rangeIn m (x .parts .first)) 0 (width (rangeIn m (x .parts .first))))),
       )
 
   -- the rows of a group, marked by the status after the range
@@ -160,13 +175,16 @@ module _ (T : Tables) (sender : ℕ) (m buffer : List ℕ) (x : Message) (n : �
       }
 
   -- the answer to a group: indicator, range and status, spare bits 0
-  group-answers : (act : Act) (type indicator : ℕ) → called .ask ≡ groupAsk m act (x .circuit) indicator (x .parts .first) → replyOf m (groupAsk m act (x .circuit) indicator (x .parts .first)) ≡ (x .circuit % 256) ∷ (x .circuit / 256) ∷ type ∷ blockKind indicator ∷ rangeAndStatus m (groupAsk m act (x .circuit) indicator (x .parts .first))
+  group-answers : (act : Act) (type indicator : ℕ) → called .ask ≡ groupAsk m act (x .circuit) indicator (x .parts .first) → replyOf (T .states) m (groupAsk m act (x .circuit) indicator (x .parts .first)) ≡ (x .circuit % 256) ∷ (x .circuit / 256) ∷ type ∷ blockKind indicator ∷ rangeAndStatus (rangeIn m (x .parts .first)) (statusIn m (x .parts .first .from + 1) (rangeIn m (x .parts .first)))
       → Acknowledges buffer (actOf T sender m buffer .buffer) n m x type (blockKind indicator)
+  unfolding statusIn
   group-answers act type indicator q e =
-      let a : Ask = groupAsk m act (x .circuit) indicator (x .parts .first) in (
-        statusFrom m a 0 (width (a .range)),
-        status-marks m a (λ z. omega arith),
-        answers a q _ e,
+      let a : Ask = groupAsk m act (x .circuit) indicator (x .parts .first) in
+      let r = rangeIn m (x .parts .first) in
+      let s : statusIn m (x .parts .first .from + 1) r ≡ octets m (x .parts .first .from + 1) (width r) = rw (ne-eqb (x .parts .first .from + 1) 0 (λ z. omega arith)) in (
+        statusFrom r (octets m (x .parts .first .from + 1) (width r)) 0 (width r),
+        marks-in m (x .parts .first .from + 1) r _ (status-marks r (octets m (x .parts .first .from + 1) (width r))),
+        answers a q _ (e ∙ ap (λ (l : List ℕ). (x .circuit % 256) ∷ (x .circuit / 256) ∷ type ∷ blockKind indicator ∷ rangeAndStatus r l) s),
       )
 
   -- CGB for maintenance: the 2 is set on marked circuits; answer CGBA
@@ -208,6 +226,34 @@ module _ (T : Tables) (sender : ℕ) (m buffer : List ℕ) (x : Message) (n : �
     group-changes UnblockGroup (indicatorIn m x) (asks UnblockGroup e) UnblockedForHardware (λ row. rw k (unblocked-hardware row)),
     subst (λ (i : ℕ). Acknowledges buffer (actOf T sender m buffer .buffer) n m x CGUA i) k (group-answers UnblockGroup CGUA (indicatorIn m x) (asks UnblockGroup e) refl),
   )
+
+  -- CQM: no row changes; answer CQR: r, then r+1 octets, octet i being the circuit state of row m+i, which says what 003, 3.12, has for that row
+  pub cqm-rule : x .kind ≡ CQM →
+      let r = rangeIn m (x .parts .first) in
+      (actOf T sender m buffer .states ≡ T .states)
+      × ((states : List ℕ)
+      × States (T .states) (x .circuit) r states
+      × ((i : ℕ) → i ≤ r → SaysOfRow (octet (T .states) (x .circuit + i)) (octet states i))
+      × Answers buffer (actOf T sender m buffer .buffer) n ((x .circuit % 256) ∷ (x .circuit / 256) ∷ CQR ∷ 2 ∷ 3 ∷ 1 ∷ r ∷ (r + 1) ∷ states))
+  unfolding changedRow replyOf
+  cqm-rule e =
+      let r = rangeIn m (x .parts .first) in
+      let a : Ask = rangeAsk m Query (x .circuit) (x .parts .first) in
+      let q = asks Query e in
+      let few : r ≤ 31 = range-rule 0 m (x .parts .first) (unbroken-so Query e) .2 in
+      let small : (r + 1) % 256 ≡ r + 1 = omega arith in
+      let group = octets (T .states) (x .circuit) (r + 1) in
+      let shown : States (T .states) (x .circuit) r (statesFrom group 0 (r + 1)) = states-in (T .states) (x .circuit) r _ (states-shown group r) in
+      let legal : (i : ℕ) → i ≤ r → isLegal (octet (T .states) (x .circuit + i)) ≡ true =
+      λ i h. found-none (λ c. isLegal (octet (T .states) c)) (x .circuit) (r + 1) (subst (λ (b : Ask). isFound (firstIllegal (T .states) (b .circuit) (b .range + 1)) ≡ false) q (called .allowed .legal)) (x .circuit + i) (omega arith) (omega arith) in (
+        called .rows ∙ rows-queried m (called .ask) (T .states) (ap (λ (b : Ask). b .act) q),
+        (
+          statesFrom group 0 (r + 1),
+          shown,
+          (λ i h. subst (λ (o : ℕ). SaysOfRow (octet (T .states) (x .circuit + i)) o) (sym (shown .each i h)) (circuit-state-says _ (legal-is _ (legal i h)))),
+          answers a q _ (ap (λ (k : ℕ). (x .circuit % 256) ∷ (x .circuit / 256) ∷ CQR ∷ 2 ∷ 3 ∷ 1 ∷ r ∷ k ∷ statesFrom group 0 (r + 1)) small),
+        ),
+      )
 
   -- an accepted CGB or CGU is of one of the two kinds
   pub group-kinds : (x .kind ≡ CGB) ⊎ (x .kind ≡ CGU) → (blockKind (indicatorIn m x) ≡ 0) ⊎ (blockKind (indicatorIn m x) ≡ 1)

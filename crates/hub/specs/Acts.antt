@@ -10,7 +10,7 @@ use Rattle.octets.specs.Choice.{if_then_else_}
 use Rattle.octets.specs.Answer.{Answer, accepted, refused, _then_}
 use Rattle.octets.specs.Filled.{filled}
 use Rattle.rows.specs.declared.Act.{Act}
-use Rattle.rows.specs.declared.Act.the-variants.{Seize, Release, Reset, Block, Unblock, ResetGroup, BlockGroup, UnblockGroup}
+use Rattle.rows.specs.declared.Act.the-variants.{Seize, Release, Reset, Block, Unblock, ResetGroup, BlockGroup, UnblockGroup, Query}
 use Rattle.asks.specs.declared.Ask.{Ask}
 use Rattle.asks.specs.Asks.{askOf}
 use Rattle.hub.specs.Tables.{Tables, sized}
@@ -28,15 +28,27 @@ isTaken states Unblock circuit = false
 isTaken states ResetGroup circuit = false
 isTaken states BlockGroup circuit = false
 isTaken states UnblockGroup circuit = false
+isTaken states Query circuit = false
 
--- 19 where a named circuit is not the sender's, 20 where a named circuit's row is not legal, 21 for IAM on a circuit that is busy or blocked, 13 where the answer has no room
-unfoldable pub allowedOf : Tables → ℕ → List ℕ → ℕ → Ask → Answer Ask
-allowedOf T sender m room a =
+-- 19 where a named circuit is not the sender's, 20 where a named circuit's row is not legal, 21 for IAM on a circuit that is busy or blocked
+unfoldable pub permittedOf : Tables → ℕ → Ask → Answer Ask
+permittedOf T sender a =
     if isFound (firstForeign (T .owners) sender (a .circuit) (a .range + 1)) then refused 19 0
     else if isFound (firstIllegal (T .states) (a .circuit) (a .range + 1)) then refused 20 0
     else if isTaken (T .states) (a .act) (a .circuit) then refused 21 0
-    else if ltb room (length (replyOf m a)) then refused 13 0
     else accepted a
+
+-- 13 where the answer has no room
+abbrev pub roomed : Tables → List ℕ → ℕ → Ask → Answer Ask
+roomed T m room a = if ltb room (length (replyOf (T .states) m a)) then refused 13 0 else accepted a
+
+-- 19, 20, 21, then 13
+unfoldable pub allowedOf : Tables → ℕ → List ℕ → ℕ → Ask → Answer Ask
+allowedOf T sender m room a = permittedOf T sender a then roomed T m room
+
+-- what a call asks and is permitted, before its answer is looked at, or its number
+unfoldable pub judgedOf : Tables → ℕ → List ℕ → Answer Ask
+judgedOf T sender m = if sized T then (askOf m then permittedOf T sender) else refused 16 0
 
 -- what a call asks and is granted, or its number
 unfoldable pub grantOf : Tables → ℕ → List ℕ → ℕ → Answer Ask
@@ -52,10 +64,10 @@ pub record After : Type 0 where
 abbrev pub after : Answer ℕ → List ℕ → List ℕ → After
 after answer states buffer = record { answer = answer; states = states; buffer = buffer }
 
--- what is granted is carried out: the answer's octets fill the buffer's front and its count is given, and the named rows change. A refusal keeps both
+-- what is granted is carried out: the answer's octets, from the rows as they were, fill the buffer's front and their count is given, and the named rows change. A refusal keeps both
 abbrev pub carriedOut : Tables → List ℕ → List ℕ → Answer Ask → After
 carriedOut T m buffer (accepted a) =
-    after (accepted (length (replyOf m a))) (rowsAfter m a (T .states)) (filled (replyOf m a) buffer)
+    after (accepted (length (replyOf (T .states) m a))) (rowsAfter m a (T .states)) (filled (replyOf (T .states) m a) buffer)
 carriedOut T m buffer (refused n at) = after (refused n at) (T .states) buffer
 
 -- a call; a refusal has the reader's octet, or 0

@@ -11,7 +11,7 @@ use Rattle.octets.specs.Among.{among}
 use Rattle.octets.specs.Faults.{Fault, fault}
 use Rattle.isup.specs.declared.Message.{Message}
 use Rattle.rows.specs.Rows.{Legal}
-use Rattle.isup.specs.Types.{IAM, REL, RSC, BLO, UBL, GRS}
+use Rattle.isup.specs.Types.{IAM, REL, RSC, BLO, UBL, GRS, CQM}
 use Rattle.asks.specs.Asks.{width}
 use Rattle.asks.specs.Faults.{Reads, rangeGiven, askFaults}
 use Rattle.hub.specs.Tables.{Tables}
@@ -36,13 +36,14 @@ Illegal states m x = (c : ℕ) × NamedBy m x c × (Legal (octet states c) → �
 abbrev pub Taken : List ℕ → Message → Type 0
 Taken states x = (x .kind ≡ IAM) × (octet states (x .circuit) ≡ 0 → ⊥)
 
--- how many octets answer a type with range r: none answer IAM; RLC has 4, BLA and UBA 3; GRA has 6 before its status, CGBA and CGUA 7
+-- how many octets answer a type with range r: none answer IAM; RLC has 4, BLA and UBA 3; GRA has 6 before its status, CGBA and CGUA 7; CQR has 9+r
 abbrev pub answerSize : ℕ → ℕ → ℕ
 answerSize kind r =
     if eqb kind IAM then 0
     else if among kind (REL ∷ RSC ∷ []) then 4
     else if among kind (BLO ∷ UBL ∷ []) then 3
     else if eqb kind GRS then 6 + width r
+    else if eqb kind CQM then 9 + r
     else 7 + width r
 
 -- 13: lent output too short

@@ -12,8 +12,9 @@ use Rattle.octets.specs.Answer.{accepted}
 use Rattle.octets.specs.Filled.{filled}
 use Rattle.isup.specs.declared.Message.{Message}
 use Rattle.isup.specs.WellFormed.{WellFormed}
-use Rattle.isup.specs.Types.{REL, RLC, RSC, BLO, UBL, BLA, UBA, GRS, CGB, CGU, CGBA, CGUA, GRA}
-use Rattle.asks.specs.Asks.{rangeIn, width, bitAt}
+use Rattle.isup.specs.Types.{REL, RLC, RSC, BLO, UBL, BLA, UBA, GRS, CGB, CGU, CGBA, CGUA, GRA, CQM, CQR}
+use Rattle.asks.specs.Asks.{rangeIn, width}
+use Rattle.replies.specs.Rules.{Marks}
 use Rattle.hub.specs.Tables.{Tables}
 use Rattle.hub.specs.Acts.{actOf}
 
@@ -36,12 +37,6 @@ pub record Accepts (T : Tables) (sender : ℕ) (m buffer : List ℕ) (x : Messag
   pub reads : WellFormed m x
   pub answer : actOf T sender m buffer .answer ≡ accepted n
 
--- the status of an answer to range r: r/8+1 octets, whose bits 0 to r are those of the message's status, and whose spare bits are 0
-pub record Marks (m : List ℕ) (from range : ℕ) (status : List ℕ) : Type 0 where
-  pub wide : length status ≡ width range
-  pub marks : (i : ℕ) → i ≤ range → bitAt status 0 i ≡ bitAt m from i
-  pub spare : (i : ℕ) → range < i → bitAt status 0 i ≡ false
-
 -- CGBA and CGUA: circuit m, the type, the indicator (spare bits 0), then range and status as the one variable parameter
 abbrev pub Acknowledges : List ℕ → List ℕ → ℕ → List ℕ → Message → ℕ → ℕ → Type 0
 Acknowledges buffer buffer′ n m x type indicator =
@@ -50,7 +45,7 @@ Acknowledges buffer buffer′ n m x type indicator =
     × Marks m (x .parts .first .from + 1) r status
     × Answers buffer buffer′ n ((x .circuit % 256) ∷ (x .circuit / 256) ∷ type ∷ indicator ∷ 1 ∷ (1 + width r) ∷ r ∷ status)
 
--- the type that answers a type: REL and RSC are answered by RLC, BLO by BLA, UBL by UBA, GRS by GRA, CGB by CGBA, CGU by CGUA; no type answers any other, and 0 is no type
+-- the type that answers a type: REL and RSC are answered by RLC, BLO by BLA, UBL by UBA, GRS by GRA, CGB by CGBA, CGU by CGUA, CQM by CQR; no type answers any other, and 0 is no type
 unfoldable pub answerType : ℕ → ℕ
 answerType kind =
     if eqb kind REL then RLC
@@ -60,4 +55,5 @@ answerType kind =
     else if eqb kind GRS then GRA
     else if eqb kind CGB then CGBA
     else if eqb kind CGU then CGUA
+    else if eqb kind CQM then CQR
     else 0

@@ -1,26 +1,20 @@
-// The hub: eight types act on one shared table of circuits, and nobody's message touches what another owns.
+// The hub: nine types act on one shared table of circuits, and nobody's message touches what another owns.
 ghost use mathlib.Core.Path.{_≡_};
-ghost use mathlib.Core.List.{[]};
 ghost use mathlib.Core.Logic.{_⊎_};
 ghost use Prim.Native.Nat.{_+_, _/_, _≤_, _<_};
 ghost use lib.ListN.{length};
-ghost use lib.Seq.{sets};
-ghost use Rattle.asks.specs.Asks.{Sound, width, markOf};
+ghost use Rattle.asks.specs.Asks.{Sound, markOf};
 ghost use Rattle.asks.specs.Told.{verdictTold};
 ghost use Rattle.hub.specs.Tables.{tables};
 ghost use Rattle.hub.specs.Rights.{isMine, isFound, firstForeign, firstIllegal};
 ghost use Rattle.hub.specs.Rows.{rowsAfter};
-ghost use Rattle.hub.specs.Replies.{headed, replyLength, statusOctet, rangeAndStatus, replyOf};
-ghost use Rattle.hub.specs.Acts.{isTaken, allowedOf, grantOf, after, actOf};
+ghost use Rattle.hub.specs.Replies.{statusIn, replyOf};
+ghost use Rattle.hub.specs.Acts.{isTaken, permittedOf, judgedOf, after, actOf};
+ghost use Rattle.octets.specs.Filled.{leaving};
 ghost use Rattle.octets.specs.Told.{writtenTold};
+ghost use Rattle.replies.specs.Replies.{sent};
 use asks::Ask;
 use asks::Verdict;
-use isup::BLA;
-use isup::CGBA;
-use isup::CGUA;
-use isup::GRA;
-use isup::RLC;
-use isup::UBA;
 use octets::Written;
 use rows::Act;
 use rows::CIRCUITS;
@@ -103,12 +97,16 @@ fn marked(message: &[u8], status: usize, n: usize) -> bool
     (octet >> by) % 2 == 1
 }
 
-// Carries out what was granted: each named row that is marked changes, and every other row stays.
+// Carries out what was granted: each named row that is marked changes, and every other row stays. A query changes none.
 fn change_rows(states: &mut [u8], message: &[u8], ask: Ask)
     requires { ⌜ (length (now states) ≡ 4096) × Sound (now message) ask ⌝ }
     ensures { λ _. ⌜ now (states .exit) ≡ rowsAfter (now (message .entry)) ask (now (states .entry)) ⌝ }
 {
     let act = ask.act;
+    match act {
+        Act::Query => return,
+        _ => {}
+    }
     let mut i = 0;
     while i <= ask.range {
         let circuit = ask.circuit + i;
@@ -119,100 +117,37 @@ fn change_rows(states: &mut [u8], message: &[u8], ask: Ask)
     }
 }
 
-// How many octets the answer has.
-fn reply_length(act: Act, range: usize) -> usize
-    requires { ⌜ range ≤ 255 ⌝ }
-    ensures { λ r. ⌜ r ≡ replyLength act range ⌝ }
+// The status octets of the message, none where each named circuit is marked without one.
+fn status_of(message: &[u8], status: usize, range: usize) -> &[u8]
+    requires { ⌜ (range ≤ 255) × ((status ≡ 0) ⊎ (status + range / 8 < length (now message))) ⌝ }
+    ensures { λ r. ⌜ now r ≡ statusIn (now (message .entry)) status range ⌝ }
 {
-    match act {
-        Act::Seize => 0,
-        Act::Release => 4,
-        Act::Reset => 4,
-        Act::Block => 3,
-        Act::Unblock => 3,
-        Act::ResetGroup => 6 + (range / 8 + 1),
-        Act::BlockGroup => 7 + (range / 8 + 1),
-        Act::UnblockGroup => 7 + (range / 8 + 1),
-    }
-}
-
-// Octet j of the answer's status, its spare bits 0.
-fn status_octet(message: &[u8], ask: Ask, j: usize) -> u8
-    requires { ⌜ Sound (now message) ask × (j ≤ ask .range / 8) ⌝ }
-    ensures { λ r. ⌜ r ≡ statusOctet (now (message .entry)) ask j ⌝ }
-{
-    let status = ask.status;
     if status == 0 {
-        return 0;
+        return &message[0..0];
     }
-    let octet = message[status + j];
-    if j < ask.range / 8 {
-        return octet;
-    }
-    let spare = 2u16 << ((ask.range % 8) as u16);
-    (octet as u16 % spare) as u8
+    let end = status + range / 8 + 1;
+    &message[status..end]
 }
 
-// Writes range and status, the one variable parameter, from octet `at` on: its pointer, its length octet, the range, the status.
-fn write_status(message: &[u8], ask: Ask, answer: &mut [u8], at: usize)
-    requires { ⌜ Sound (now message) ask × (at + 3 + width (ask .range) ≤ length (now answer)) ⌝ }
-    ensures { λ _. ⌜ now (answer .exit) ≡ sets (now (answer .entry)) at (rangeAndStatus (now (message .entry)) ask) ⌝ }
-{
-    let width = ask.range / 8 + 1;
-    answer[at] = 1;
-    answer[at + 1] = (1 + width) as u8;
-    answer[at + 2] = ask.range as u8;
-    let mut j = 0;
-    while j < width {
-        answer[at + 3 + j] = status_octet(message, ask, j);
-        j += 1;
-    }
-}
-
-// Writes the circuit, low eight bits first, and the type to the front of `answer`.
-fn write_head(answer: &mut [u8], circuit: usize, kind: u8)
-    requires { ⌜ (circuit ≤ 4095) × (3 ≤ length (now answer)) ⌝ }
-    ensures { λ _. ⌜ now (answer .exit) ≡ sets (now (answer .entry)) 0 (headed circuit kind []) ⌝ }
-{
-    answer[0] = (circuit % 256) as u8;
-    answer[1] = (circuit / 256) as u8;
-    answer[2] = kind;
-}
-
-// Writes the answer's octets to the front of `answer`, and keeps the rest of it.
-fn write_reply(message: &[u8], ask: Ask, answer: &mut [u8])
-    requires { ⌜ Sound (now message) ask × (replyLength (ask .act) (ask .range) ≤ length (now answer)) ⌝ }
-    ensures { λ _. ⌜ now (answer .exit) ≡ sets (now (answer .entry)) 0 (replyOf (now (message .entry)) ask) ⌝ }
+// Writes the answer to what was allowed, from the rows as they are: its octets fill the front of `answer` and their count is given; or 13, and all of `answer` is kept.
+fn write_reply(states: &[u8], message: &[u8], ask: Ask, answer: &mut [u8]) -> Written
+    requires { ⌜ (length (now states) ≡ 4096) × Sound (now message) ask ⌝ }
+    ensures { λ r. ⌜ leaving (writtenTold r) (now (answer .exit)) ≡ sent (replyOf (now (states .entry)) (now (message .entry)) ask) (now (answer .entry)) ⌝ }
 {
     let act = ask.act;
     let circuit = ask.circuit;
-    match act {
-        Act::Seize => {}
-        Act::Release => {
-            write_head(answer, circuit, RLC);
-            answer[3] = 0;
-        }
-        Act::Reset => {
-            write_head(answer, circuit, RLC);
-            answer[3] = 0;
-        }
-        Act::Block => write_head(answer, circuit, BLA),
-        Act::Unblock => write_head(answer, circuit, UBA),
-        Act::ResetGroup => {
-            write_head(answer, circuit, GRA);
-            write_status(message, ask, answer, 3);
-        }
-        Act::BlockGroup => {
-            write_head(answer, circuit, CGBA);
-            answer[3] = ask.block;
-            write_status(message, ask, answer, 4);
-        }
-        Act::UnblockGroup => {
-            write_head(answer, circuit, CGUA);
-            answer[3] = ask.block;
-            write_status(message, ask, answer, 4);
-        }
-    }
+    let range = ask.range;
+    let end = circuit + range + 1;
+    let status = status_of(message, ask.status, range);
+    replies::reply(
+        act,
+        circuit as u16,
+        range as u8,
+        ask.block,
+        &states[circuit..end],
+        status,
+        answer,
+    )
 }
 
 // Whether the message is an IAM on a circuit that is busy or blocked.
@@ -229,20 +164,14 @@ fn taken(states: &[u8], act: Act, circuit: usize) -> bool
         Act::ResetGroup => false,
         Act::BlockGroup => false,
         Act::UnblockGroup => false,
+        Act::Query => false,
     }
 }
 
-// Whether what is asked is allowed: 19, 20, 21, then 13.
-fn allow(
-    states: &[u8],
-    owners: &[u8],
-    sender: u32,
-    message: &[u8],
-    room: usize,
-    ask: Ask,
-) -> Verdict
-    requires { ⌜ (length (now states) ≡ 4096) × (length (now owners) ≡ 4096) × Sound (now message) ask ⌝ }
-    ensures { λ r. ⌜ verdictTold r ≡ allowedOf (tables (now (states .entry)) (now (owners .entry))) sender (now (message .entry)) room ask ⌝ }
+// Whether what is asked is permitted: 19, 20, then 21.
+fn permit(states: &[u8], owners: &[u8], sender: u32, ask: Ask) -> Verdict
+    requires { ⌜ (length (now states) ≡ 4096) × (length (now owners) ≡ 4096) × (ask .circuit + ask .range ≤ 4095) ⌝ }
+    ensures { λ r. ⌜ verdictTold r ≡ permittedOf (tables (now (states .entry)) (now (owners .entry))) sender ask ⌝ }
 {
     let circuit = ask.circuit;
     let range = ask.range;
@@ -256,15 +185,12 @@ fn allow(
     if taken(states, act, circuit) {
         return Verdict::Refused(21, 0);
     }
-    if room < reply_length(act, range) {
-        return Verdict::Refused(13, 0);
-    }
     Verdict::Granted(ask)
 }
 
-// All that is looked at before anything is stored: 16, the reader's, 17, 14, 18, 19, 20, 21, 13.
-fn judge(states: &[u8], owners: &[u8], sender: u32, message: &[u8], room: usize) -> Verdict
-    ensures { λ r. ⌜ verdictTold r ≡ grantOf (tables (now (states .entry)) (now (owners .entry))) sender (now (message .entry)) room ⌝ }
+// All that is looked at before the answer: 16, the reader's, 17, 14, 18, 19, 20, 21.
+fn judge(states: &[u8], owners: &[u8], sender: u32, message: &[u8]) -> Verdict
+    ensures { λ r. ⌜ verdictTold r ≡ judgedOf (tables (now (states .entry)) (now (owners .entry))) sender (now (message .entry)) ⌝ }
 {
     if states.len() != CIRCUITS {
         return Verdict::Refused(16, 0);
@@ -274,7 +200,7 @@ fn judge(states: &[u8], owners: &[u8], sender: u32, message: &[u8], room: usize)
     }
     match asks::decode(message) {
         Verdict::Refused(n, at) => Verdict::Refused(n, at),
-        Verdict::Granted(ask) => allow(states, owners, sender, message, room, ask),
+        Verdict::Granted(ask) => permit(states, owners, sender, ask),
     }
 }
 
@@ -290,13 +216,14 @@ pub fn act(
     ensures { λ r. ⌜ after (writtenTold r) (now (states .exit)) (now (answer .exit)) ≡
         actOf (tables (now (states .entry)) (now (owners .entry))) sender (now (message .entry)) (now (answer .entry)) ⌝ }
 {
-    match judge(states, owners, sender, message, answer.len()) {
+    match judge(states, owners, sender, message) {
         Verdict::Refused(n, at) => Written::Refused(n, at),
-        Verdict::Granted(ask) => {
-            write_reply(message, ask, answer);
-            change_rows(states, message, ask);
-            let act = ask.act;
-            Written::Octets(reply_length(act, ask.range))
-        }
+        Verdict::Granted(ask) => match write_reply(states, message, ask, answer) {
+            Written::Refused(n, at) => Written::Refused(n, at),
+            Written::Octets(n) => {
+                change_rows(states, message, ask);
+                Written::Octets(n)
+            }
+        },
     }
 }

@@ -54,6 +54,10 @@ pub const CGUA: u8 = 0x1B;
 
 pub const GRA: u8 = 0x29;
 
+pub const CQM: u8 = 0x2A;
+
+pub const CQR: u8 = 0x2B;
+
 // A message that is well formed: its circuit, its type, and where its parts stand. ISUP has no third variable part.
 pub struct Message {
     pub circuit: u16,

@@ -30,11 +30,9 @@ use Rattle.number.specs.Contents.{halfCount, oddBit, fillerIn, countIn, natureI
 use Rattle.number.specs.Read.{readNumberOf, numberIn}
 use Rattle.number.specs.Write.{anyAbove15, writeNumberOf, numberOctets}
 use Rattle.number.proofs.Laws.{length-packed}
-use Rattle.rows.specs.declared.Act.{Act}
-use Rattle.rows.specs.declared.Act.the-variants.{Seize, Release, Reset, Block, Unblock, ResetGroup, BlockGroup, UnblockGroup}
 use Rattle.asks.proofs.Reading.{ask-sound}
 use Rattle.hub.specs.Tables.{Tables}
-use Rattle.hub.specs.Replies.{replyLength}
+use Rattle.replies.proofs.Writing.{reply-length}
 use Rattle.hub.specs.Acts.{actOf}
 use Rattle.hub.proofs.Writing.{length-reply}
 use Rattle.hub.proofs.Called.{call-accepted}
@@ -151,20 +149,9 @@ number-small nature plan internal signals buffer n e =
     let q = ap (λ (y : ℕ × List ℕ). y .0) (accepted-same (f .1)) in
     omega (arith, ltb-false 30 (length signals) (d .0), length-packed signals)
 
--- the hub's answer
-reply-few : (act : Act) (range : ℕ) → range ≤ 255 → replyLength act range ≤ 40
-unfolding replyLength
-reply-few Seize range h = omega arith
-reply-few Release range h = omega arith
-reply-few Reset range h = omega arith
-reply-few Block range h = omega arith
-reply-few Unblock range h = omega arith
-reply-few ResetGroup range h = omega arith
-reply-few BlockGroup range h = omega arith
-reply-few UnblockGroup range h = omega arith
-
+-- the hub's answer has 40 octets at the most
 pub act-small : (T : Tables) (sender : ℕ) (m buffer : List ℕ) (n : ℕ) → AllOctets m → actOf T sender m buffer .answer ≡ accepted n → n ≤ 40
 act-small T sender m buffer n o e =
     let k = call-accepted T sender m buffer n e in
     let s = ask-sound m (k .ask) o (k .allowed .asks) in
-    omega (arith, k .count, length-reply m (k .ask), reply-few (k .ask .act) (k .ask .range) (s .few))
+    omega (arith, k .count, length-reply (T .states) m (k .ask), reply-length (k .ask .act) (k .ask .range) (s .few) (s .fewer))

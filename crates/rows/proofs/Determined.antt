@@ -3,10 +3,13 @@ use Prim.Native.Nat.{ℕ}
 use mathlib.Core.Path.{_≡_, sym, _∙_}
 use mathlib.Core.Bool.{Bool}
 use Rattle.rows.specs.declared.Act.{Act}
-use Rattle.rows.specs.Rows.{isLegal, changedRow}
+use Rattle.rows.specs.Rows.{isLegal, changedRow, circuitState}
 
 pub legal-determined : (row : ℕ) (r s : Bool) → r ≡ isLegal row → s ≡ isLegal row → r ≡ s
 legal-determined row r s p q = p ∙ sym q
 
 pub changed-determined : (act : Act) (block row r s : ℕ) → r ≡ changedRow act block row → s ≡ changedRow act block row → r ≡ s
 changed-determined act block row r s p q = p ∙ sym q
+
+pub circuit-state-determined : (row r s : ℕ) → r ≡ circuitState row → s ≡ circuitState row → r ≡ s
+circuit-state-determined row r s p q = p ∙ sym q

@@ -7,7 +7,7 @@ use lib.Dec.{eqb}
 use Rattle.octets.specs.Choice.{if_then_else_}
 use Rattle.octets.proofs.Among.{among-one, one-among}
 use Rattle.rows.specs.declared.Act.{Act}
-use Rattle.rows.specs.declared.Act.the-variants.{Seize, Release, Reset, Block, Unblock, ResetGroup, BlockGroup, UnblockGroup}
+use Rattle.rows.specs.declared.Act.the-variants.{Seize, Release, Reset, Block, Unblock, ResetGroup, BlockGroup, UnblockGroup, Query}
 use Rattle.rows.specs.Rows.{legalRows, isLegal, Legal, blockedRow, unblockedRow, changedRow, rowOf}
 
 pub legal-is : (row : ℕ) → isLegal row ≡ true → Legal row
@@ -54,6 +54,7 @@ changed-legal Unblock block row h = unblocked-legal 0 row h
 changed-legal ResetGroup block row h = by-legal (λ r. isLegal (changedRow ResetGroup block r) ≡ true) refl refl refl refl refl refl row h
 changed-legal BlockGroup block row h = blocked-legal block row h
 changed-legal UnblockGroup block row h = unblocked-legal block row h
+changed-legal Query block row h = is-legal row h
 
 -- marked or not, a legal row stays legal
 pub row-legal : (act : Act) (block : ℕ) (marked : Bool) (row : ℕ) → Legal row → Legal (rowOf act block marked row)

@@ -1,3 +1,4 @@
 pub mod Legality
 pub mod Determined
 pub mod Rules
+pub mod States

@@ -3,7 +3,7 @@ use Prim.Native.Nat.{ℕ}
 use mathlib.Core.Path.{refl, sym, subst}
 use native.Mathlib.Omega.{arith}
 use Rattle.rows.specs.declared.Act.{Act}
-use Rattle.rows.specs.declared.Act.the-variants.{Seize, Release, Reset, Block, Unblock, ResetGroup, BlockGroup, UnblockGroup}
+use Rattle.rows.specs.declared.Act.the-variants.{Seize, Release, Reset, Block, Unblock, ResetGroup, BlockGroup, UnblockGroup, Query}
 use Rattle.rows.specs.Rows.{blockedRow, unblockedRow, changedRow}
 use Rattle.rows.specs.Rules.{Released, BlockedForMaintenance, UnblockedForMaintenance, BlockedForHardware, UnblockedForHardware, Becomes}
 
@@ -46,3 +46,4 @@ changed-becomes UnblockGroup block row = (
   λ e. subst (λ (b : ℕ). UnblockedForMaintenance row (unblockedRow b row)) (sym e) (unblocked-maintenance row),
   λ e. subst (λ (b : ℕ). UnblockedForHardware row (unblockedRow b row)) (sym e) (unblocked-hardware row),
 )
+changed-becomes Query block row = refl

@@ -1,12 +1,12 @@
 -- What a row says and what becomes of it: 1 busy, 2 remotely blocked for maintenance, 4 for hardware, added up.
-use Prim.Native.Nat.{ℕ, _+_, _*_, _/_, _%_}
+use Prim.Native.Nat.{ℕ, _+_, _-_, _*_, _/_, _%_}
 use mathlib.Core.Bool.{Bool}
 use mathlib.Core.List.{List, [], _∷_}
 use lib.Dec.{eqb}
 use Rattle.octets.specs.Choice.{if_then_else_}
 use Rattle.octets.specs.Among.{among, OneOf}
 use Rattle.rows.specs.declared.Act.{Act}
-use Rattle.rows.specs.declared.Act.the-variants.{Seize, Release, Reset, Block, Unblock, ResetGroup, BlockGroup, UnblockGroup}
+use Rattle.rows.specs.declared.Act.the-variants.{Seize, Release, Reset, Block, Unblock, ResetGroup, BlockGroup, UnblockGroup, Query}
 
 -- ---- what a row says
 -- 1 where the circuit is busy
@@ -72,7 +72,13 @@ changedRow Unblock block row = unblockedRow 0 row
 changedRow ResetGroup block row = 0
 changedRow BlockGroup block row = blockedRow block row
 changedRow UnblockGroup block row = unblockedRow block row
+changedRow Query block row = row
 
 -- unmarked circuits stay
 abbrev pub rowOf : Act → ℕ → Bool → ℕ → ℕ
 rowOf act block marked row = if marked then changedRow act block row else row
+
+-- ---- what is told of it
+-- the circuit state octet of a row (003, 3.12): idle 0C, busy 04, remotely blocked for maintenance 02 more, for hardware 20 more
+abbrev pub circuitState : ℕ → ℕ
+circuitState row = 12 - 8 * busy row + 2 * maintenance row + 32 * hardware row

@@ -2,7 +2,7 @@
 use Prim.Native.Nat.{ℕ}
 use mathlib.Core.Path.{_≡_}
 use Rattle.rows.specs.declared.Act.{Act}
-use Rattle.rows.specs.declared.Act.the-variants.{Seize, Release, Reset, Block, Unblock, ResetGroup, BlockGroup, UnblockGroup}
+use Rattle.rows.specs.declared.Act.the-variants.{Seize, Release, Reset, Block, Unblock, ResetGroup, BlockGroup, UnblockGroup, Query}
 use Rattle.rows.specs.Rows.{busy, maintenance, hardware}
 
 -- IAM: state must be 0, becomes 1
@@ -33,6 +33,10 @@ BlockedForHardware old new = (hardware new ≡ 1) × (busy new ≡ 0) × (mainte
 abbrev pub UnblockedForHardware : ℕ → ℕ → Type 0
 UnblockedForHardware old new = (hardware new ≡ 0) × (busy new ≡ busy old) × (maintenance new ≡ maintenance old)
 
+-- CQM: no row changes
+abbrev pub Unchanged : ℕ → ℕ → Type 0
+Unchanged old new = new ≡ old
+
 -- what each act makes of a row that it may change: a kind of block, 0 for maintenance and 1 for hardware, comes with CGB and CGU
 abbrev pub Becomes : Act → ℕ → ℕ → ℕ → Type 0
 Becomes Seize block old new = old ≡ 0 → Seized old new
@@ -43,3 +47,4 @@ Becomes Unblock block old new = UnblockedForMaintenance old new
 Becomes ResetGroup block old new = Cleared old new
 Becomes BlockGroup block old new = (block ≡ 0 → BlockedForMaintenance old new) × (block ≡ 1 → BlockedForHardware old new)
 Becomes UnblockGroup block old new = (block ≡ 0 → UnblockedForMaintenance old new) × (block ≡ 1 → UnblockedForHardware old new)
+Becomes Query block old new = Unchanged old new

@@ -1,11 +1,11 @@
 // What a row says, and what becomes of it: one state octet for each circuit, 1 busy, 2 remotely blocked for maintenance, 4 for hardware, added up.
 ghost use mathlib.Core.Path.{_≡_};
-ghost use Rattle.rows.specs.Rows.{isLegal, blockedRow, unblockedRow, changedRow};
+ghost use Rattle.rows.specs.Rows.{isLegal, blockedRow, unblockedRow, changedRow, circuitState};
 
 // How many circuits the hub has: each table has a row for each.
 pub const CIRCUITS: usize = 4096;
 
-// What can be done to circuits: to one that is named alone, or to each marked one of a group.
+// What can be done to circuits: to one that is named alone, or to each marked one of a group. A query changes none.
 pub enum Act {
     Seize,
     Release,
@@ -15,6 +15,7 @@ pub enum Act {
     ResetGroup,
     BlockGroup,
     UnblockGroup,
+    Query,
 }
 
 // Whether a row is one that the paper has.
@@ -65,5 +66,13 @@ pub fn changed(act: Act, block: u8, row: u8) -> u8
         Act::ResetGroup => 0,
         Act::BlockGroup => blocked(block, row),
         Act::UnblockGroup => unblocked(block, row),
+        Act::Query => row,
     }
+}
+
+// What a circuit state octet says of a row: call processing in its bits D C, remote maintenance in B A, remote hardware in F E.
+pub fn circuit_state(row: u8) -> u8
+    ensures { λ r. ⌜ r ≡ circuitState row ⌝ }
+{
+    12 - 8 * (row % 2) + 2 * (row / 2 % 2) + 32 * (row / 4 % 2)
 }

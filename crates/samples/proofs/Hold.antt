@@ -12,18 +12,19 @@ use Rattle.number.specs.Contents.{signalsIn}
 use Rattle.octets.specs.Applied.{applied}
 use Rattle.rows.specs.Rows.{isLegal, blockedRow, unblockedRow, changedRow}
 use Rattle.asks.specs.Types.{actFor}
-use Rattle.asks.specs.Asks.{brokenReset, brokenGroup, askedIn, askOf, bitAt, markOf}
+use Rattle.asks.specs.Asks.{brokenRange, brokenGroup, askedIn, askOf, bitAt, markOf}
 use Rattle.hub.specs.Rights.{firstNot}
-use Rattle.hub.specs.Replies.{statusOctet, statusFrom, replyOf, replyLength}
-use Rattle.hub.specs.Acts.{allowedOf, grantOf, actOf}
+use Rattle.replies.specs.Replies.{statusOctet, statusFrom, statesFrom}
+use Rattle.hub.specs.Replies.{statusIn, replyOf}
+use Rattle.hub.specs.Acts.{permittedOf, allowedOf, grantOf, actOf}
 use Rattle.samples.specs.Samples.{paperRows, AllHold, ours, OursHold}
 
 -- the paper's twelve
 pub samples-hold : AllHold paperRows
-unfolding stepAt stops stopFrom runFrom isRun variableAt optionalAt variableSlot optionalSlot sharesOf judged held containerOf partsOf pointers ahead variables runPointer closedRun formOf unfitOf marks exceeds writtenOf shapeOf readOf writeIn compactIn brokenReset brokenGroup actFor askedIn askOf bitAt markOf isLegal firstNot applied blockedRow unblockedRow changedRow statusOctet statusFrom replyOf replyLength allowedOf grantOf actOf halves signalsIn
+unfolding stepAt stops stopFrom runFrom isRun variableAt optionalAt variableSlot optionalSlot sharesOf judged held containerOf partsOf pointers ahead variables runPointer closedRun formOf unfitOf marks exceeds writtenOf shapeOf readOf writeIn compactIn brokenRange brokenGroup actFor askedIn askOf bitAt markOf isLegal firstNot applied blockedRow unblockedRow changedRow statusOctet statusFrom statesFrom statusIn replyOf permittedOf allowedOf grantOf actOf halves signalsIn
 samples-hold = (refl, (refl, (refl, (refl, (refl, (refl, (refl, (refl, (refl, (refl, (refl, (refl, tt))))))))))))
 
 -- our own, every type and kind of the hub
 pub ours-hold : OursHold ours
-unfolding stepAt stops stopFrom runFrom isRun variableAt optionalAt variableSlot optionalSlot sharesOf judged held containerOf partsOf pointers ahead variables runPointer closedRun formOf unfitOf marks exceeds writtenOf shapeOf readOf writeIn compactIn brokenReset brokenGroup actFor askedIn askOf bitAt markOf isLegal firstNot applied blockedRow unblockedRow changedRow statusOctet statusFrom replyOf replyLength allowedOf grantOf actOf halves signalsIn
-ours-hold = (refl, (refl, (refl, (refl, (refl, (refl, (refl, (refl, (refl, (refl, (refl, (refl, (refl, tt)))))))))))))
+unfolding stepAt stops stopFrom runFrom isRun variableAt optionalAt variableSlot optionalSlot sharesOf judged held containerOf partsOf pointers ahead variables runPointer closedRun formOf unfitOf marks exceeds writtenOf shapeOf readOf writeIn compactIn brokenRange brokenGroup actFor askedIn askOf bitAt markOf isLegal firstNot applied blockedRow unblockedRow changedRow statusOctet statusFrom statesFrom statusIn replyOf permittedOf allowedOf grantOf actOf halves signalsIn
+ours-hold = (refl, (refl, (refl, (refl, (refl, (refl, (refl, (refl, (refl, (refl, (refl, (refl, (refl, (refl, (refl, (refl, tt))))))))))))))))

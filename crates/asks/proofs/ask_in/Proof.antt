@@ -1,4 +1,4 @@
-use Rattle.rows.specs.declared.Act.the-variants.{Seize, Release, Reset, Block, Unblock, ResetGroup, BlockGroup, UnblockGroup}
+use Rattle.rows.specs.declared.Act.the-variants.{Seize, Release, Reset, Block, Unblock, ResetGroup, BlockGroup, UnblockGroup, Query}
 use Rattle.asks.proofs.Reading.{asked-by, one-reaches}
 use Rattle.asks.specs.Types.{actFor}
 use Rattle.asks.specs.Asks.{askedIn}
@@ -26,8 +26,8 @@ ask-one-requires-4 c κs = search needs
 ask-one-requires-5 : tie.Need-ask-one-requires-5
 ask-one-requires-5 c κs = search needs
 
-ask-reset-requires : tie.Need-ask-reset-requires
-ask-reset-requires c κs = search needs
+ask-range-requires : tie.Need-ask-range-requires
+ask-range-requires c κs = search needs
 
 shared-slice-read-ask-group : tie.Need-shared-slice-read-ask-group
 shared-slice-read-ask-group c = c .before .before .before .pre .indicated (inl (c .before .match .keys7))
@@ -40,6 +40,9 @@ shared-slice-read-ask-group-2 c = c .before .before .before .pre .indicated (inr
 
 ask-group-requires-2 : tie.Need-ask-group-requires-2
 ask-group-requires-2 c κs = search needs
+
+ask-range-requires-2 : tie.Need-ask-range-requires-2
+ask-range-requires-2 c κs = search needs
 
 returns : tie.Need-returns
 returns c = let a = c .before .before .before .args in c .ask-one .ensures ∙ one-reaches (now (a .message)) (looked (a .kind) (a .circuit) (a .at) (a .contents)) Seize (c .before .before .before .pre .low) ∙ asked-by (now (a .message)) (looked (a .kind) (a .circuit) (a .at) (a .contents)) Seize (c .before .match .keys1)
@@ -57,7 +60,7 @@ returns-5 : tie.Need-returns-5
 returns-5 c = let a = c .before .before .before .args in c .ask-one5 .ensures ∙ one-reaches (now (a .message)) (looked (a .kind) (a .circuit) (a .at) (a .contents)) Unblock (c .before .before .before .pre .low) ∙ asked-by (now (a .message)) (looked (a .kind) (a .circuit) (a .at) (a .contents)) Unblock (c .before .match .keys5)
 
 returns-6 : tie.Need-returns-6
-returns-6 c = let a = c .before .before .before .args in c .ask-reset .ensures ∙ asked-by (now (a .message)) (looked (a .kind) (a .circuit) (a .at) (a .contents)) ResetGroup (c .before .match .keys6)
+returns-6 c = let a = c .before .before .before .args in c .ask-range .ensures ∙ asked-by (now (a .message)) (looked (a .kind) (a .circuit) (a .at) (a .contents)) ResetGroup (c .before .match .keys6)
 
 returns-7 : tie.Need-returns-7
 returns-7 c = let a = c .before .before .before .before .args in c .ask-group .ensures ∙ asked-by (now (a .message)) (looked (a .kind) (a .circuit) (a .at) (a .contents)) BlockGroup (c .before .before .match .keys7)
@@ -66,8 +69,11 @@ returns-8 : tie.Need-returns-8
 returns-8 c = let a = c .before .before .before .before .args in c .ask-group2 .ensures ∙ asked-by (now (a .message)) (looked (a .kind) (a .circuit) (a .at) (a .contents)) UnblockGroup (c .before .before .match .keys8)
 
 returns-9 : tie.Need-returns-9
+returns-9 c = let a = c .before .before .before .args in c .ask-range2 .ensures ∙ asked-by (now (a .message)) (looked (a .kind) (a .circuit) (a .at) (a .contents)) Query (c .before .match .keys9)
+
+returns-10 : tie.Need-returns-10
 unfolding askedIn actFor
-returns-9 c = simp (ne-eqb _ _ (c .match .rest .1), ne-eqb _ _ (c .match .rest .0 .1), ne-eqb _ _ (c .match .rest .0 .0 .1), ne-eqb _ _ (c .match .rest .0 .0 .0 .1), ne-eqb _ _ (c .match .rest .0 .0 .0 .0 .1), ne-eqb _ _ (c .match .rest .0 .0 .0 .0 .0 .1), ne-eqb _ _ (c .match .rest .0 .0 .0 .0 .0 .0 .1), ne-eqb _ _ (c .match .rest .0 .0 .0 .0 .0 .0 .0 .1))
+returns-10 c = simp (ne-eqb _ _ (c .match .rest .1), ne-eqb _ _ (c .match .rest .0 .1), ne-eqb _ _ (c .match .rest .0 .0 .1), ne-eqb _ _ (c .match .rest .0 .0 .0 .1), ne-eqb _ _ (c .match .rest .0 .0 .0 .0 .1), ne-eqb _ _ (c .match .rest .0 .0 .0 .0 .0 .1), ne-eqb _ _ (c .match .rest .0 .0 .0 .0 .0 .0 .1), ne-eqb _ _ (c .match .rest .0 .0 .0 .0 .0 .0 .0 .1), ne-eqb _ _ (c .match .rest .0 .0 .0 .0 .0 .0 .0 .0 .1))
 
 pub ask-in-spec : {M : Type 1} → statement M
 ask-in-spec =
@@ -78,11 +84,12 @@ ask-in-spec =
     ask-one-requires-3
     ask-one-requires-4
     ask-one-requires-5
-    ask-reset-requires
+    ask-range-requires
     shared-slice-read-ask-group
     ask-group-requires
     shared-slice-read-ask-group-2
     ask-group-requires-2
+    ask-range-requires-2
     returns
     returns-2
     returns-3
@@ -91,4 +98,5 @@ ask-in-spec =
     returns-6
     returns-7
     returns-8
-    returns-9)
+    returns-9
+    returns-10)

@@ -1,6 +1,8 @@
 use Rattle.hub.specs.Tables.{tables}
-use Rattle.hub.proofs.Given.{act-refused, act-allowed, act-room, act-sound, act-done}
+use Rattle.hub.proofs.Given.{act-refused, act-fair, act-sound, act-short, act-done}
 use Rattle.asks.specs.Asks.{Sound}
+use lib.ListN.{length}
+use mathlib.Core.Path.{_≡_}
 use denote.Ref.{now}
 use borrow.Author.Needs.{needs}
 use Rattle.hub.proofs.act.Statement.{statement}
@@ -9,6 +11,10 @@ use Rattle.hub.proofs.act.Tie as tie
 -- what is granted is sound
 sound : (c : tie.After-ask) → Sound (now (c .before .before .before .before .before .before .before .before .args .message)) (c .ask .given .0 .0)
 sound c = let a = c .before .before .before .before .before .before .before .before .args in act-sound (tables (now (a .states)) (now (a .owners))) (a .sender) (now (a .message)) (now (a .answer)) _ (c .before .before .judge .ensures) _ (c .ask .given .1) (λ i. c .before .before .before .before .before .shared-slice-known2 .given i .fits)
+
+-- and the table has a row for each circuit
+sized-so : (c : tie.After-ask) → length (now (c .before .before .before .before .before .before .before .before .args .states)) ≡ 4096
+sized-so c = let a = c .before .before .before .before .before .before .before .before .args in act-fair (tables (now (a .states)) (now (a .owners))) (a .sender) (now (a .message)) (now (a .answer)) _ (c .before .before .judge .ensures) _ (c .ask .given .1) .states-sized
 
 judge-requires : tie.Need-judge-requires
 judge-requires c κs = search needs
@@ -20,13 +26,16 @@ enum-known-ask : tie.Need-enum-known-ask
 enum-known-ask c = search needs
 
 write-reply-requires : tie.Need-write-reply-requires
-write-reply-requires c κs = (sound (c .before .before), let a = c .before .before .before .before .before .before .before .before .before .before .args in act-room (tables (now (a .states)) (now (a .owners))) (a .sender) (now (a .message)) (now (a .answer)) _ (c .before .before .before .before .judge .ensures) _ (c .before .before .ask .given .1))
+write-reply-requires c κs = (sized-so (c .before .before .before), sound (c .before .before .before))
+
+enum-known-n-2 : tie.Need-enum-known-n-2
+enum-known-n-2 c = search needs
+
+enum-known-n-3 : tie.Need-enum-known-n-3
+enum-known-n-3 c = search needs
 
 change-rows-requires : tie.Need-change-rows-requires
-change-rows-requires c κs = (let a = c .before .before .before .before .before .before .before .before .before .before .before .before .before .before .args in act-allowed (tables (now (a .states)) (now (a .owners))) (a .sender) (now (a .message)) (now (a .answer)) _ (c .before .before .before .before .before .before .before .before .judge .ensures) _ (c .before .before .before .before .before .before .ask .given .1) .states-sized, sound (c .before .before .before .before .before .before))
-
-reply-length-requires : tie.Need-reply-length-requires
-reply-length-requires c κs = sound (c .before .before .before .before .before .before .before .before .before) .few
+change-rows-requires c κs = (sized-so (c .before .before .before .before .before .before .before .before .before .before), sound (c .before .before .before .before .before .before .before .before .before .before))
 
 same-length : tie.Need-same-length
 same-length c = search needs
@@ -41,7 +50,16 @@ same-length-3 : tie.Need-same-length-3
 same-length-3 c = search needs
 
 returns-2 : tie.Need-returns-2
-returns-2 c = let a = c .before .before .before .before .before .before .before .before .before .before .before .before .before .before .before .before .before .before .args in act-done (tables (now (a .states)) (now (a .owners))) (a .sender) (now (a .message)) (now (a .answer)) _ (c .before .before .before .before .before .before .before .before .before .before .before .before .judge .ensures) _ (c .before .before .before .before .before .before .before .before .before .before .ask .given .1) _ _ _ (c .reply-length .ensures) (c .before .before .before .change-rows .ensures) (c .before .before .before .before .before .before .before .write-reply .ensures)
+returns-2 c = let a = c .before .before .before .before .before .before .before .before .before .before .before .before .before .before .before .before .before .args in act-short (tables (now (a .states)) (now (a .owners))) (a .sender) (now (a .message)) (now (a .answer)) _ (c .before .before .before .before .before .before .before .before .before .before .before .judge .ensures) _ (c .before .before .before .before .before .before .before .before .before .ask .given .1) _ _ (c .before .before .before .before .before .write-reply .ensures) _ _ (c .before .n2 .given .1)
+
+same-length-4 : tie.Need-same-length-4
+same-length-4 c = search needs
+
+same-length-5 : tie.Need-same-length-5
+same-length-5 c = search needs
+
+returns-3 : tie.Need-returns-3
+returns-3 c = let a = c .before .before .before .before .before .before .before .before .before .before .before .before .before .before .before .before .before .before .before .before .before .args in act-done (tables (now (a .states)) (now (a .owners))) (a .sender) (now (a .message)) (now (a .answer)) _ (c .before .before .before .before .before .before .before .before .before .before .before .before .before .before .before .judge .ensures) _ (c .before .before .before .before .before .before .before .before .before .before .before .before .before .ask .given .1) _ _ (c .before .before .before .before .before .before .before .before .before .write-reply .ensures) _ _ (c .before .before .before .before .before .n3 .given .1) (c .before .before .change-rows .ensures)
 
 pub act-spec : {M : Type 1} → statement M
 act-spec =
@@ -51,10 +69,14 @@ act-spec =
     enum-known-n
     enum-known-ask
     write-reply-requires
+    enum-known-n-2
+    enum-known-n-3
     change-rows-requires
-    reply-length-requires
     same-length
     returns
     same-length-2
     same-length-3
-    returns-2)
+    returns-2
+    same-length-4
+    same-length-5
+    returns-3)

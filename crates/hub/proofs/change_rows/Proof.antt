@@ -1,5 +1,5 @@
 use borrow.Author.Needs.{needs}
-use Rattle.hub.proofs.Writing.{row-marked, row-unmarked}
+use Rattle.hub.proofs.Writing.{row-marked, row-unmarked, rows-queried}
 use Rattle.octets.proofs.Applied.{applied-none}
 use Rattle.hub.specs.Rows.{effect, rowsAfter}
 use Rattle.octets.specs.Applied.{applied}
@@ -21,6 +21,12 @@ Inv-loop states₀ message ask act i₀ states i =
 abbrev μ-loop : tie.MeasureT-loop
 μ-loop states₀ message ask act i₀ states i = ask .range + 1 - i
 
+enum-told : tie.Need-enum-told Inv-loop μ-loop
+enum-told c = search needs
+
+returns : tie.Need-returns Inv-loop μ-loop
+returns c = let a = c .before .before .before .before .args in sym (rows-queried (now (a .message)) (a .ask) (now (a .states)) (c .enum-told .given .1))
+
 loop-holds : tie.Need-loop-holds Inv-loop μ-loop
 loop-holds c = (omega arith, refl, rw (add-zero, sub-zero))
 
@@ -28,7 +34,7 @@ add-circuit : tie.Need-add-circuit Inv-loop μ-loop
 add-circuit c = omega arith
 
 marked-requires : tie.Need-marked-requires Inv-loop μ-loop
-marked-requires c κs = ⊎-elim (λ e. inl e) (λ h. inr (omega arith)) (c .before .before .before .before .before .before .pre .1 .there)
+marked-requires c κs = ⊎-elim (λ e. inl e) (λ h. inr (omega arith)) (c .before .before .before .before .before .before .before .pre .1 .there)
 
 slice-read-changed : tie.Need-slice-read-changed Inv-loop μ-loop
 slice-read-changed c = omega arith
@@ -48,7 +54,7 @@ loop-less c = omega arith
 loop-again : tie.Need-loop-again Inv-loop μ-loop
 loop-again c =
     let l = c .before .before .before .before .before .loop in
-    let a = c .before .before .before .before .before .before .before .before .args in
+    let a = c .before .before .before .before .before .before .before .before .before .args in
     let k = c .before .marked in
     ⊎-elim
     (λ w. (omega arith, ap length (w .3) ∙ simp length-set (l .inv .1), ap (λ (s : List ℕ). applied (effect (now (a .message)) (a .ask)) (a .ask .circuit + (l .i + 1)) (a .ask .range + 1 - (l .i + 1)) s) (w .3) ∙ sym (row-marked (now (a .message)) (a .ask) (l .i) _ _ (k .result) (l .states) (k .ensures) (omega arith) (w .2 .result) (w .0 .taken) (w .2 .ensures)) ∙ l .inv .2))
@@ -58,8 +64,8 @@ loop-again c =
 same-length : tie.Need-same-length Inv-loop μ-loop
 same-length c = search needs
 
-returns : tie.Need-returns Inv-loop μ-loop
-returns c = let l = c .before .before .loop in sym (applied-none _ _ _ _ (omega arith)) ∙ l .inv .2
+returns-2 : tie.Need-returns-2 Inv-loop μ-loop
+returns-2 c = let l = c .before .before .loop in sym (applied-none _ _ _ _ (omega arith)) ∙ l .inv .2
 
 pub change-rows-spec : {M : Type 1} → statement M
 change-rows-spec =
@@ -67,6 +73,8 @@ change-rows-spec =
     (tie.spec
     Inv-loop
     μ-loop
+    enum-told
+    returns
     loop-holds
     add-circuit
     marked-requires
@@ -77,4 +85,4 @@ change-rows-spec =
     loop-less
     loop-again
     same-length
-    returns)
+    returns-2)

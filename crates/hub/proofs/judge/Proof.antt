@@ -1,8 +1,8 @@
 use Rattle.hub.specs.Tables.{tables}
-use Rattle.hub.proofs.Given.{grant-refused, grant-asked}
+use Rattle.hub.proofs.Given.{judged-refused, judged-asked}
 use Rattle.asks.proofs.Reading.{ask-sound}
 use Rattle.asks.specs.Told.{verdictTold}
-use Rattle.hub.specs.Acts.{grantOf}
+use Rattle.hub.specs.Acts.{judgedOf}
 use denote.Ref.{now}
 use mathlib.Core.Path.{sym, ap, _∙_}
 use borrow.Author.Tests.{ne-eqb, eq-eqb}
@@ -11,11 +11,11 @@ use Rattle.hub.proofs.judge.Statement.{statement}
 use Rattle.hub.proofs.judge.Tie as tie
 
 returns : tie.Need-returns
-unfolding grantOf
+unfolding judgedOf
 returns c = rw (ne-eqb _ _ (c .if1 .taken))
 
 returns-2 : tie.Need-returns-2
-unfolding grantOf
+unfolding judgedOf
 returns-2 c = rw (eq-eqb _ _ (c .before .if1 .left), ne-eqb _ _ (c .if2 .taken))
 
 decode-requires : tie.Need-decode-requires
@@ -27,14 +27,14 @@ enum-known-n c = search needs
 enum-known-ask : tie.Need-enum-known-ask
 enum-known-ask c = search needs
 
-allow-requires : tie.Need-allow-requires
-allow-requires c κs = let a = c .before .before .before .before .before .before .before .before .before .args in (c .before .before .before .before .before .if1 .left, c .before .before .before .before .if2 .left, ask-sound (now (a .message)) _ (λ i. c .before .before .before .before .before .before .shared-slice-known3 .given i .fits) (sym (c .before .before .before .decode .ensures) ∙ ap verdictTold (c .before .ask .given .1)))
+permit-requires : tie.Need-permit-requires
+permit-requires c κs = let a = c .before .before .before .before .before .before .before .before .before .args in (c .before .before .before .before .before .if1 .left, c .before .before .before .before .if2 .left, ask-sound (now (a .message)) _ (λ i. c .before .before .before .before .before .before .shared-slice-known3 .given i .fits) (sym (c .before .before .before .decode .ensures) ∙ ap verdictTold (c .before .ask .given .1)) .last)
 
 returns-3 : tie.Need-returns-3
-returns-3 c = let a = c .before .before .before .before .before .before .before .before .before .args in grant-refused (tables (now (a .states)) (now (a .owners))) (a .sender) (now (a .message)) (a .room) (c .before .before .before .before .before .if1 .left) (c .before .before .before .before .if2 .left) _ (c .before .before .before .decode .ensures) _ _ (c .before .n .given .1)
+returns-3 c = let a = c .before .before .before .before .before .before .before .before .before .args in judged-refused (tables (now (a .states)) (now (a .owners))) (a .sender) (now (a .message)) (c .before .before .before .before .before .if1 .left) (c .before .before .before .before .if2 .left) _ (c .before .before .before .decode .ensures) _ _ (c .before .n .given .1)
 
 returns-4 : tie.Need-returns-4
-returns-4 c = let a = c .before .before .before .before .before .before .before .before .before .before .args in c .allow .ensures ∙ grant-asked (tables (now (a .states)) (now (a .owners))) (a .sender) (now (a .message)) (a .room) (c .before .before .before .before .before .before .if1 .left) (c .before .before .before .before .before .if2 .left) _ (c .before .before .before .before .decode .ensures) _ (c .before .before .ask .given .1)
+returns-4 c = let a = c .before .before .before .before .before .before .before .before .before .before .args in c .permit .ensures ∙ judged-asked (tables (now (a .states)) (now (a .owners))) (a .sender) (now (a .message)) (c .before .before .before .before .before .before .if1 .left) (c .before .before .before .before .before .if2 .left) _ (c .before .before .before .before .decode .ensures) _ (c .before .before .ask .given .1)
 
 pub judge-spec : {M : Type 1} → statement M
 judge-spec =
@@ -45,6 +45,6 @@ judge-spec =
     decode-requires
     enum-known-n
     enum-known-ask
-    allow-requires
+    permit-requires
     returns-3
     returns-4)

@@ -33,6 +33,9 @@ enum-told-7 c = search needs
 enum-told-8 : tie.Need-enum-told-8
 enum-told-8 c = search needs
 
+enum-told-9 : tie.Need-enum-told-9
+enum-told-9 c = search needs
+
 returns : tie.Need-returns
 returns c = let a = c .before .before .before .args in sym (ap (λ (k : Act). isTaken (now (a .states)) k (a .circuit)) (c .before .enum-told .given .1))
 
@@ -57,6 +60,9 @@ returns-7 c = search needs
 returns-8 : tie.Need-returns-8
 returns-8 c = search needs
 
+returns-9 : tie.Need-returns-9
+returns-9 c = search needs
+
 pub taken-spec : {M : Type 1} → statement M
 taken-spec =
     tie.close
@@ -70,6 +76,7 @@ taken-spec =
     enum-told-6
     enum-told-7
     enum-told-8
+    enum-told-9
     returns
     returns-2
     returns-3
@@ -77,4 +84,5 @@ taken-spec =
     returns-5
     returns-6
     returns-7
-    returns-8)
+    returns-8
+    returns-9)

@@ -44,6 +44,9 @@ enum-told-8 c = search needs
 unblocked-requires-2 : tie.Need-unblocked-requires-2
 unblocked-requires-2 c κs = search needs
 
+enum-told-9 : tie.Need-enum-told-9
+enum-told-9 c = search needs
+
 returns : tie.Need-returns
 unfolding changedRow
 returns c = let a = c .before .before .args in sym (ap (λ (k : Act). changedRow k (a .block) (a .row)) (c .enum-told .given .1))
@@ -76,6 +79,10 @@ returns-8 : tie.Need-returns-8
 unfolding changedRow
 returns-8 c = let a = c .before .before .before .args in c .unblocked2 .ensures ∙ sym (ap (λ (k : Act). changedRow k (a .block) (a .row)) (c .before .enum-told8 .given .1))
 
+returns-9 : tie.Need-returns-9
+unfolding changedRow
+returns-9 c = let a = c .before .before .args in sym (ap (λ (k : Act). changedRow k (a .block) (a .row)) (c .enum-told9 .given .1))
+
 pub changed-spec : {M : Type 1} → statement M
 changed-spec =
     tie.close
@@ -93,6 +100,7 @@ changed-spec =
     blocked-requires-2
     enum-told-8
     unblocked-requires-2
+    enum-told-9
     returns
     returns-2
     returns-3
@@ -100,4 +108,5 @@ changed-spec =
     returns-5
     returns-6
     returns-7
-    returns-8)
+    returns-8
+    returns-9)

@@ -1,0 +1,4 @@
+pub mod Writing
+pub mod Status
+pub mod Determined
+pub mod ReadBack

@@ -1,0 +1,38 @@
+use lib.ListN.{length-set}
+use native.Mathlib.Omega.{arith}
+use borrow.Author.Needs.{needs}
+use Rattle.replies.proofs.write_head.Statement.{statement}
+use Rattle.replies.proofs.write_head.Tie as tie
+
+cast-answer : tie.Need-cast-answer
+cast-answer c = search needs
+
+slice-write-answer : tie.Need-slice-write-answer
+slice-write-answer c = search needs
+
+cast-answer-2 : tie.Need-cast-answer-2
+cast-answer-2 c = search needs
+
+slice-write-answer-2 : tie.Need-slice-write-answer-2
+slice-write-answer-2 c = simp length-set (omega arith)
+
+slice-write-answer-3 : tie.Need-slice-write-answer-3
+slice-write-answer-3 c = search needs
+
+same-length : tie.Need-same-length
+same-length c = search needs
+
+returns : tie.Need-returns
+returns c = search needs
+
+pub write-head-spec : {M : Type 1} → statement M
+write-head-spec =
+    tie.close
+    (tie.spec
+    cast-answer
+    slice-write-answer
+    cast-answer-2
+    slice-write-answer-2
+    slice-write-answer-3
+    same-length
+    returns)
