@@ -1,4 +1,4 @@
-/* llachurep.h: ISUP messages and the hub's circuit table, for C (C99) and C++.
+/* llachurep.h: ISUP messages, the hub's circuit table and velocities, for C (C99) and C++.
  *
  * The library is target/staticlib/libllachurep.a, made by tools/staticlib, for x86-64.
  * Every function is proved to answer as the paper says (docs/PROMISES.md), and touches nothing but what it is lent.
@@ -58,7 +58,8 @@ enum {
     LLACHUREP_GROUP = 18,            /* group passes circuit 4095 */
     LLACHUREP_NOT_OWNER = 19,        /* a named circuit is not the sender's, or the sender is 0 */
     LLACHUREP_STATE = 20,            /* a named circuit's state octet is not legal */
-    LLACHUREP_NOT_FREE = 21          /* IAM on a circuit that is busy or blocked */
+    LLACHUREP_NOT_FREE = 21,         /* IAM on a circuit that is busy or blocked */
+    LLACHUREP_VELOCITY = 26          /* a value that is no number, infinite or below zero; a bearing from 360 up */
 };
 
 /* What llachurep_read puts into parts[0] to parts[9]. Starts count from the message's first octet. */
@@ -123,6 +124,22 @@ uint32_t llachurep_number_write(uint32_t nature, uint32_t plan, uint32_t interna
  * Refused: 16; as llachurep_read, but for its 13; 17, 14, 18, 19, 20, 21, 13. */
 uint32_t llachurep_act(uint8_t *states, size_t states_length, const uint8_t *owners, size_t owners_length,
                        uint32_t sender, const uint8_t *message, size_t length, uint8_t *answer, size_t answer_length);
+
+/* Codes a bearing in degrees and a speed in km/h (Q.1902.3, 6.19.1). Accepted: v is 2; codes[0] is the bearing's whole
+ * degrees and codes[1] the nearest whole speed, a half going up, 65535 from 65534.5 on; further elements of codes stay.
+ * Refused: 26 where a value is not a number, infinite or below zero (minus zero is zero), or the bearing is 360 or more;
+ * 13 where count is under 2. */
+uint32_t llachurep_velocity_code(double bearing, double speed, uint16_t *codes, size_t count);
+
+/* The same with a vertical speed in km/h (6.19.2); its mark, upward or downward, stays with the caller. Accepted: v is 3, and
+ * codes[2] is the vertical speed's, 255 from 254.5 on.
+ * Refused: 26, 13 where count is under 3. */
+uint32_t llachurep_velocity_code_vertical(double bearing, double speed, double vertical, uint16_t *codes, size_t count);
+
+/* What codes stand for. Accepted: v is 2; values[0] is the bearing and values[1] the speed, each the code itself; further
+ * elements of values stay. (A vertical code, 0 to 255, stands for itself.)
+ * Refused: 26 for a bearing above 359 or a speed above 65535; 13 where count is under 2. */
+uint32_t llachurep_velocity_read(uint32_t bearing, uint32_t speed, double *values, size_t count);
 
 #ifdef __cplusplus
 }

@@ -21,6 +21,7 @@ enum { LINE = 8192, OCTETS = 1024, FIELDS = 8 };
 
 struct field {
     uint32_t number;
+    double value;
     size_t count;
     uint8_t octets[OCTETS];
 };
@@ -34,7 +35,40 @@ static int digit(char c)
     return c >= '0' && c <= '9' ? c - '0' : c >= 'a' && c <= 'f' ? c - 'a' + 10 : c >= 'A' && c <= 'F' ? c - 'A' + 10 : -1;
 }
 
-/* A word as the form says: o octets, t a type or name, n any number, r a room, c a circuit, s a small number. */
+/* A measured value: `0x` and 16 hexadecimal digits, its bits; or a decimal of 1 to 15 digits, with a point between two of them
+ * or none, and `-` before it or not. Both whole numbers of the quotient are exact, so it is the nearest value. */
+static int measured(const char *word, size_t length, double *to)
+{
+    if (length == 18 && word[0] == '0' && word[1] == 'x') {
+        uint64_t bits = 0;
+        for (size_t i = 2; i < 18; i++) {
+            if (digit(word[i]) < 0)
+                return 0;
+            bits = 16 * bits + (unsigned)digit(word[i]);
+        }
+        memcpy(to, &bits, sizeof bits);
+        return 1;
+    }
+    size_t at = length > 0 && word[0] == '-', start = at, count = 0, point = 0;
+    uint64_t number = 0, scale = 1;
+    for (; at < length; at++) {
+        if (word[at] == '.' && !point && at > start && at + 1 < length) {
+            point = 1;
+            continue;
+        }
+        if (word[at] < '0' || word[at] > '9' || ++count > 15)
+            return 0;
+        number = 10 * number + (unsigned)(word[at] - '0');
+        scale *= point ? 10 : 1;
+    }
+    *to = (double)number / (double)scale;
+    if (start)
+        *to = -*to;
+    return count > 0;
+}
+
+/* A word as the form says: o octets, t a type or name, n any number, r a room, c a circuit, s a small number, h a code, v a
+ * measured value, m a mark. */
 static int parse(const char *word, size_t length, char form, struct field *to)
 {
     if (form == 'o' || form == 't') {
@@ -51,7 +85,13 @@ static int parse(const char *word, size_t length, char form, struct field *to)
         to->number = to->octets[0];
         return 1;
     }
-    uint64_t value = 0, most = form == 'n' ? 4294967295u : form == 'r' ? 1024 : form == 'c' ? 4095 : 255;
+    if (form == 'v')
+        return measured(word, length, &to->value);
+    if (form == 'm') {
+        to->number = length == 4;
+        return (length == 2 && memcmp(word, "up", 2) == 0) || (length == 4 && memcmp(word, "down", 4) == 0);
+    }
+    uint64_t value = 0, most = form == 'n' ? 4294967295u : form == 'h' ? 65535 : form == 'r' ? 1024 : form == 'c' ? 4095 : 255;
     if (length == 0 || length > 10)
         return 0;
     for (size_t i = 0; i < length; i++) {
@@ -130,8 +170,24 @@ static void shape(uint32_t type)
            !tried(type, fixed, 1, 0, 0) + !tried(type, fixed, 0, 1, 0), tried(type, fixed, 0, 0, 2) ? "no" : "yes");
 }
 
+/* The codes of a velocity, or the values that codes stand for, in the same words. */
+static void velocity(uint32_t answer, unsigned bearing, unsigned speed, const unsigned *vertical, uint32_t down)
+{
+    if (answer >> 16) {
+        printf("refused %u\n", answer >> 16);
+        return;
+    }
+    printf("bearing %u speed %u", bearing, speed);
+    if (vertical)
+        printf(" vertical %u %s", *vertical, down ? "down" : "up");
+    printf("\n");
+}
+
 static void answer(size_t length)
 {
+    uint16_t codes[3] = {0};
+    double values[2] = {0};
+    unsigned vertical;
     const struct field *f = fields;
     if (is(length, "shape", "t")) {
         shape(f[0].number);
@@ -192,6 +248,20 @@ static void answer(size_t length)
         printf("rows ");
         hex(states + f[0].number, f[1].number - f[0].number + 1);
         printf("\n");
+    } else if (is(length, "velocity", "vv")) {
+        uint32_t got = CALL(velocity_code)(f[0].value, f[1].value, codes, 2);
+        velocity(got, codes[0], codes[1], NULL, 0);
+    } else if (is(length, "velocity", "vvvm")) {
+        uint32_t got = CALL(velocity_code_vertical)(f[0].value, f[1].value, f[2].value, codes, 3);
+        vertical = codes[2];
+        velocity(got, codes[0], codes[1], &vertical, f[3].number);
+    } else if (is(length, "velocity-back", "hh")) {
+        uint32_t got = CALL(velocity_read)(f[0].number, f[1].number, values, 2);
+        velocity(got, (unsigned)values[0], (unsigned)values[1], NULL, 0);
+    } else if (is(length, "velocity-back", "hhsm")) {
+        uint32_t got = CALL(velocity_read)(f[0].number, f[1].number, values, 2);
+        vertical = f[2].number;
+        velocity(got, (unsigned)values[0], (unsigned)values[1], &vertical, f[3].number);
     } else {
         printf("bad line\n");
     }

@@ -342,6 +342,57 @@ uint32_t plain_number_write(uint32_t nature, uint32_t plan, uint32_t internal, c
     return (uint32_t)total;
 }
 
+/* ------------------------------------------------------------------------------------------------ velocities */
+
+/* Whether a value is a finite number from 0 on; -0.0 is 0. */
+static int measurable(double value)
+{
+    return value >= 0 && value <= 1.7976931348623157e308;
+}
+
+/* N - 0.5 <= h < N + 0.5; from top - 0.5 on, top. What is left over a whole number is exact below 65536. */
+static uint16_t speed_code(double h, unsigned top)
+{
+    if (h >= top - 0.5)
+        return (uint16_t)top;
+    unsigned n = (unsigned)h;
+    return (uint16_t)(h - n < 0.5 ? n : n + 1);
+}
+
+uint32_t plain_velocity_code(double bearing, double speed, uint16_t *codes, size_t count)
+{
+    if (!measurable(bearing) || !measurable(speed) || bearing >= 360)
+        return refusal(26);
+    if (count < 2)
+        return refusal(13);
+    codes[0] = (uint16_t)bearing;
+    codes[1] = speed_code(speed, 65535);
+    return 2;
+}
+
+uint32_t plain_velocity_code_vertical(double bearing, double speed, double vertical, uint16_t *codes, size_t count)
+{
+    if (!measurable(bearing) || !measurable(speed) || !measurable(vertical) || bearing >= 360)
+        return refusal(26);
+    if (count < 3)
+        return refusal(13);
+    codes[0] = (uint16_t)bearing;
+    codes[1] = speed_code(speed, 65535);
+    codes[2] = speed_code(vertical, 255);
+    return 3;
+}
+
+uint32_t plain_velocity_read(uint32_t bearing, uint32_t speed, double *values, size_t count)
+{
+    if (bearing > 359 || speed > 65535)
+        return refusal(26);
+    if (count < 2)
+        return refusal(13);
+    values[0] = bearing;
+    values[1] = speed;
+    return 2;
+}
+
 /* ------------------------------------------------------------------------------------------------ the hub */
 
 enum { BUSY = 1, MAINTENANCE = 2, HARDWARE = 4 };

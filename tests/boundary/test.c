@@ -12,8 +12,9 @@
 
 enum { MESSAGES = 200000, SHOWN = 10 };
 
-enum { READ, WRITE, COMPACT, FIND, NUMBER_READ, NUMBER_WRITE, ACT, FUNCTIONS };
-static const char *const names[FUNCTIONS] = {"read", "write", "compact", "find", "number_read", "number_write", "act"};
+enum { READ, WRITE, COMPACT, FIND, NUMBER_READ, NUMBER_WRITE, ACT, VELOCITY_CODE, VELOCITY_VERTICAL, VELOCITY_READ, FUNCTIONS };
+static const char *const names[FUNCTIONS] = {"read", "write", "compact", "find", "number_read", "number_write", "act",
+                                             "velocity", "vertical", "velocity_read"};
 
 static unsigned long checks, failures;
 static unsigned long seen[FUNCTIONS][32];
@@ -300,6 +301,53 @@ static uint32_t try_number_write(uint32_t nature, uint32_t plan, uint32_t intern
         printf("  nature %u, plan %u, internal %u, room %u\n", nature, plan, internal, (unsigned)room);
         show("signals", signals, count);
     }
+    return got;
+}
+
+/* Codes: `vertical` or none. */
+static uint32_t try_velocity(double bearing, double speed, const double *vertical, size_t count, uint16_t *codes)
+{
+    enum { EDGE = 6 };
+    uint16_t mine[2 * EDGE + 8], other[2 * EDGE + 8], old[2 * EDGE + 8];
+    for (size_t i = 0; i < 2 * EDGE + 8; i++)
+        mine[i] = other[i] = old[i] = (uint16_t)(40000 + 77 * i);
+    begin();
+    ready();
+    uint16_t *to = count == 0 && null_if_empty ? NULL : mine + EDGE, *plain = to ? other + EDGE : NULL;
+    uint32_t got = vertical ? llachurep_velocity_code_vertical(bearing, speed, *vertical, to, count)
+                            : llachurep_velocity_code(bearing, speed, to, count);
+    uint32_t wanted = vertical ? plain_velocity_code_vertical(bearing, speed, *vertical, plain, count)
+                               : plain_velocity_code(bearing, speed, plain, count);
+    if (got >> 16 == 0)
+        memcpy(old + EDGE, mine + EDGE, (vertical ? 3 : 2) * sizeof old[0]);
+    int good = settle(vertical ? VELOCITY_VERTICAL : VELOCITY_CODE, got, wanted, got >> 16, 0, 0);
+    if (good && (memcmp(mine, other, sizeof mine) != 0 || memcmp(mine, old, sizeof mine) != 0))
+        good = (failed("velocity leaves other numbers"), 0);
+    if (!good && failures <= SHOWN)
+        printf("  codes %u %u %u / %u %u %u\n", mine[EDGE], mine[EDGE + 1], mine[EDGE + 2], other[EDGE], other[EDGE + 1], other[EDGE + 2]);
+    if (codes)
+        memcpy(codes, mine + EDGE, 3 * sizeof codes[0]);
+    return got;
+}
+
+static uint32_t try_velocity_read(uint32_t bearing, uint32_t speed, size_t count)
+{
+    enum { EDGE = 3 };
+    double mine[2 * EDGE + 4], other[2 * EDGE + 4], old[2 * EDGE + 4];
+    for (size_t i = 0; i < 2 * EDGE + 4; i++)
+        mine[i] = other[i] = old[i] = 77.25 + (double)i;
+    begin();
+    ready();
+    int null = count == 0 && null_if_empty;
+    uint32_t got = llachurep_velocity_read(bearing, speed, null ? NULL : mine + EDGE, count);
+    uint32_t wanted = plain_velocity_read(bearing, speed, null ? NULL : other + EDGE, count);
+    if (got >> 16 == 0)
+        memcpy(old + EDGE, mine + EDGE, 2 * sizeof old[0]);
+    int good = settle(VELOCITY_READ, got, wanted, got >> 16, 0, 0);
+    if (good && (memcmp(mine, other, sizeof mine) != 0 || memcmp(mine, old, sizeof mine) != 0))
+        good = (failed("velocity_read leaves other values"), 0);
+    if (!good && failures <= SHOWN)
+        printf("  bearing %u, speed %u\n", bearing, speed);
     return got;
 }
 
@@ -1172,12 +1220,113 @@ static void generated(void)
     }
 }
 
+/* ------------------------------------------------------------------------------------------------ velocities */
+
+static double of_bits(uint64_t bits)
+{
+    double value;
+    memcpy(&value, &bits, sizeof value);
+    return value;
+}
+
+/* A speed and its codes, horizontal and vertical; 26 for both where `code` is below 0. */
+static void speeds(const char *what, double value, long code, long vertical)
+{
+    uint16_t codes[3];
+    want(what, "speed", try_velocity(0, value, NULL, 2, codes), code < 0 ? REFUSED(26) : 2);
+    if (code >= 0)
+        want(what, "speed's code", codes[1], (uint64_t)code);
+    want(what, "vertical", try_velocity(0, 0, &value, 3, codes), code < 0 ? REFUSED(26) : 3);
+    if (code >= 0)
+        want(what, "vertical's code", codes[2], (uint64_t)vertical);
+}
+
+static void bearings(const char *what, double value, long code)
+{
+    uint16_t codes[3];
+    want(what, "bearing", try_velocity(value, 1, NULL, 2, codes), code < 0 ? REFUSED(26) : 2);
+    if (code >= 0)
+        want(what, "bearing's code", codes[0], (uint64_t)code);
+    want(what, "bearing", try_velocity(value, 1, &value, 3, codes), code < 0 ? REFUSED(26) : 3);
+}
+
+static void velocity_cases(void)
+{
+    static const uint64_t wrong[9] = {0x7FF8000000000000u, 0x7FF0000000000001u, 0xFFF8000000000000u, 0xFFFFFFFFFFFFFFFFu,
+                                      0x7FF0000000000000u, 0xFFF0000000000000u, 0xBFF0000000000000u, 0x8000000000000001u,
+                                      0xC07F400000000000u};
+    for (int i = 0; i < 9; i++) {
+        speeds("wrong", of_bits(wrong[i]), -1, -1);
+        bearings("wrong", of_bits(wrong[i]), -1);
+    }
+    speeds("minus zero", -0.0, 0, 0);
+    speeds("the smallest", of_bits(1), 0, 0);
+    speeds("0.49999999999999994", 0.49999999999999994, 0, 0);
+    speeds("0.5", 0.5, 1, 1);
+    speeds("1.4999999999999998", 1.4999999999999998, 1, 1);
+    speeds("1.5", 1.5, 2, 2);
+    speeds("2.5", 2.5, 3, 3);
+    speeds("254.49999999999997", 254.49999999999997, 254, 254);
+    speeds("254.5", 254.5, 255, 255);
+    speeds("65534.49999999999", 65534.49999999999, 65534, 255);
+    speeds("65534.5", 65534.5, 65535, 255);
+    speeds("65536", 65536, 65535, 255);
+    speeds("1e308", 1e308, 65535, 255);
+    bearings("minus zero", -0.0, 0);
+    bearings("the smallest", of_bits(1), 0);
+    bearings("0.9999999999999999", 0.9999999999999999, 0);
+    bearings("359.99999999999994", 359.99999999999994, 359);
+    bearings("360", 360, -1);
+    bearings("1e308", 1e308, -1);
+    for (size_t count = 0; count <= 4; count++) {
+        double vertical = 3;
+        want("velocity, count", "1 2", try_velocity(1, 2, NULL, count, NULL), count < 2 ? REFUSED(13) : 2);
+        want("vertical, count", "1 2 3", try_velocity(1, 2, &vertical, count, NULL), count < 3 ? REFUSED(13) : 3);
+        want("velocity, count", "360 2", try_velocity(360, 2, NULL, count, NULL), REFUSED(26));
+        want("velocity_read, count", "359 65535", try_velocity_read(359, 65535, count), count < 2 ? REFUSED(13) : 2);
+        want("velocity_read, count", "360 0", try_velocity_read(360, 0, count), REFUSED(26));
+        want("velocity_read, count", "0 65536", try_velocity_read(0, 65536, count), REFUSED(26));
+        want("velocity_read, count", "65536 0", try_velocity_read(65536, 0, count), REFUSED(26));
+    }
+    /* Read back: N itself, and coded again the same. */
+    for (uint32_t code = 0; code <= 65535; code++) {
+        uint16_t codes[3];
+        double values[2];
+        uint32_t bearing = code % 360;
+        try_velocity_read(bearing, code, 2);
+        llachurep_velocity_read(bearing, code, values, 2);
+        want("read back", "the value", values[0] == bearing && values[1] == code, 1);
+        try_velocity(values[0], values[1], NULL, 2, codes);
+        want("coded again", "the code", codes[0] == bearing && codes[1] == code, 1);
+    }
+}
+
+/* Near a whole number or a half of one, or any 64 bits. */
+static double some_value(uint32_t most)
+{
+    if (one_in(4))
+        return of_bits((uint64_t)chance() << 32 | chance());
+    double value = below(2 * most + 3) / 2.0;
+    uint64_t bits;
+    memcpy(&bits, &value, sizeof bits);
+    return of_bits(bits + below(3) - (bits ? 1 : 0));
+}
+
+static void generated_velocities(void)
+{
+    for (unsigned i = 0; i < MESSAGES; i++) {
+        double vertical = some_value(256);
+        try_velocity(some_value(360), some_value(65536), one_in(2) ? &vertical : NULL, one_in(8) ? below(5) : 3, NULL);
+        try_velocity_read(one_in(8) ? chance() : below(365), one_in(8) ? chance() : below(65540), one_in(8) ? below(4) : 2);
+    }
+}
+
 /* ------------------------------------------------------------------------------------------------ all of it */
 
 /* Each number that a function can give has come, and no other; each type was read, and each act was done. */
 static void reached(void)
 {
-    static const char can[FUNCTIONS][22] = {
+    static const char can[FUNCTIONS][27] = {
         [READ] = {1, 1, 1, 1, 1, 1, 1, 1, 1, 0, 0, 0, 0, 1},
         [WRITE] = {1, 0, 1, 1, 0, 0, 0, 0, 0, 1, 1, 1, 1, 1},
         [COMPACT] = {1, 1, 1, 1, 1, 1, 1, 1, 1, 0, 0, 0, 1, 1},
@@ -1185,14 +1334,17 @@ static void reached(void)
         [NUMBER_READ] = {1, 0, 0, 0, 0, 0, 0, 0, 0, 0, 0, 0, 0, 1, 1},
         [NUMBER_WRITE] = {1, 0, 0, 0, 0, 0, 0, 0, 0, 0, 0, 0, 0, 1, 1},
         [ACT] = {1, 1, 1, 1, 1, 1, 1, 1, 1, 0, 0, 0, 0, 1, 1, 0, 1, 1, 1, 1, 1, 1},
+        [VELOCITY_CODE] = {[0] = 1, [13] = 1, [26] = 1},
+        [VELOCITY_VERTICAL] = {[0] = 1, [13] = 1, [26] = 1},
+        [VELOCITY_READ] = {[0] = 1, [13] = 1, [26] = 1},
     };
     for (int f = 0; f < FUNCTIONS; f++) {
-        printf("%-12s", names[f]);
+        printf("%-13s", names[f]);
         for (unsigned n = 0; n < 32; n++) {
             checks++;
             if (seen[f][n])
                 printf(" %u:%lu", n, seen[f][n]);
-            if ((seen[f][n] != 0) != (n < 22 && can[f][n]) && failed(names[f]))
+            if ((seen[f][n] != 0) != (n < 27 && can[f][n]) && failed(names[f]))
                 printf("  number %u came %lu times\n", n, seen[f][n]);
         }
         printf("\n");
@@ -1224,7 +1376,9 @@ int main(void)
     find_cases();
     number_cases();
     act_cases();
+    velocity_cases();
     generated();
+    generated_velocities();
     reached();
     printf("boundary: %lu checks, %lu failures\n", checks, failures);
     return failures != 0;

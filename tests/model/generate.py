@@ -11,9 +11,10 @@ from collections import Counter
 
 sys.dont_write_bytecode = True
 import model
+import velocities
 from model import SHAPES, IAM, REL, RSC, BLO, UBL, GRS, CGB, CGU, CQM
 
-STORED_COUNT = 3000
+STORED_COUNT = 3200
 STORED_SEED = 763
 
 TYPES = sorted(SHAPES)
@@ -764,11 +765,41 @@ class Generator:
             low, high = 0, 4095
         return [self.line("rows", low, high)]
 
+    # ------------------------------------------------------------ velocities
+
+    def measured(self, most):
+        """A measured value up to about `most`, near a whole number or a half of one, at an edge, or any 64 bits."""
+        way = self.rng.random()
+        if way < 0.25:
+            return self.pick(velocities.EDGES)
+        if way < 0.45:
+            return "0x%016x" % self.rng.getrandbits(64)
+        if way < 0.7:
+            number = velocities.pattern(self.between(0, 2 * most + 2) / 2) + self.pick([-1, 0, 0, 1])
+            return ("0x%016x" if self.chance(0.7) else "0x%016X") % max(0, number)
+        digits = str(self.between(0, most + most // 20))
+        part = "".join(str(self.between(0, 9)) for _ in range(self.between(0, 15 - len(digits))))
+        part = self.pick([part, "5", "50000", "49999999", "0", ""])[:15 - len(digits)]
+        return ("-" if self.chance(0.03) else "") + digits + ("." + part if part else "")
+
+    def velocity(self):
+        fields = [self.measured(360), self.measured(65536)]
+        if self.chance(0.5):
+            fields += [self.measured(256), self.pick(["up", "down"])]
+        return [self.line("velocity", *fields)]
+
+    def velocity_back(self):
+        fields = [self.pick([0, 1, 358, 359, 360, 361, 511, 512, 65535, self.between(0, 359), self.between(0, 65535)]),
+                  self.pick([0, 1, 65534, 65535, self.between(0, 65535)])]
+        if self.chance(0.5):
+            fields += [self.pick([0, 254, 255, self.between(0, 255)]), self.pick(["up", "down"])]
+        return [self.line("velocity-back", *fields)]
+
     # ------------------------------------------------------------ lines that are no request
 
     def request(self):
         return self.pick([self.shape, self.read, self.write, self.compact, self.find, self.number, self.dial,
-                          self.look, self.strange, self.spans])()[0]
+                          self.look, self.strange, self.spans, self.velocity, self.velocity_back])()[0]
 
     def long(self):
         """Lines of 8192 octets, of one more, and of many more."""
@@ -915,6 +946,22 @@ class Generator:
             for room in (max(0, 2 * octets - odd - 1), max(0, 2 * octets - odd)):
                 made.append(b"number %s %d" % (contents.hex().encode(), room))
         made += [b"number - 9", b"number 03 9", b"number 83 9"]
+        # Measured values at each edge, in each place; codes at theirs; words that are no value, no code or no mark.
+        for edge in velocities.EDGES:
+            word = edge.encode()
+            made += [b"velocity %s 12.5" % word, b"velocity 12.5 %s" % word, b"velocity 12.5 80.2 %s down" % word]
+        for word in (b"", b"-", b".", b".5", b"5.", b"1.2.3", b"--1", b"+1", b"1e3", b"nan", b"inf", b"1000000000000000",
+                     b"0.000000000000001", b"000000000000001", b"0x", b"0x000000000000001", b"0x00000000000000001",
+                     b"0X0000000000000001", b"0x000000000000000g", b"-0x0000000000000001", b"-1.5", b"1,5", b"0x1", b"00012"):
+            made += [b"velocity %s 1" % word, b"velocity 1 %s" % word, b"velocity 1 1 %s up" % word]
+        for word in (b"", b"u", b"Up", b"upp", b"dow", b"down ", b"downn", b"up\0", b"doxn", b"dawn", b"0", b"-"):
+            made += [b"velocity 1 1 1 " + word, b"velocity-back 1 1 1 " + word]
+        for bearing in (b"0", b"359", b"360", b"511", b"65535", b"65536", b"4294967296", b"1.0", b"0x1", b"-0", b""):
+            made += [b"velocity-back %s 0" % bearing, b"velocity-back 0 %s" % bearing, b"velocity-back %s 0 0 up" % bearing,
+                     b"velocity-back 0 %s 255 down" % bearing]
+        made += [b"velocity-back 0 0 255 up", b"velocity-back 0 0 256 up", b"velocity", b"velocity 1", b"velocity 1 1 1",
+                 b"velocity 1 1 1 up 1", b"velocity-back", b"velocity-back 1", b"velocity-back 1 1 1", b"velocity-bac 1 1",
+                 b"velocity-back- 1 1", b"velocity-backs 1 1", b"velocity- 1 1", b"velocity 1 1 up 1", b"velocity 1  1"]
         return [[line] for line in made]
 
     def tables(self):
@@ -1011,7 +1058,7 @@ class Generator:
         return self.weighted([
             (3, self.shape), (22, self.read), (20, self.write), (15, self.compact), (18, self.find),
             (9, self.number), (9, self.dial), (10, self.group), (7, self.single), (4, self.going), (1, self.spans),
-            (18, self.strange), (1, self.look), (11, lambda: [self.bad()])])()
+            (18, self.strange), (1, self.look), (10, self.velocity), (4, self.velocity_back), (11, lambda: [self.bad()])])()
 
     def next(self):
         """The next line, without LF; with a CR in some."""
@@ -1051,11 +1098,11 @@ def coverage(data):
 
 
 def table(counts):
-    columns = ["accepted"] + list(range(1, 22)) + ["bad line"]
+    columns = ["accepted"] + list(range(1, 27)) + ["bad line"]
     columns = [each for each in columns if any(outcome == each for _, outcome in counts)]
-    lines = ["%-8s" % "" + "".join("%9s" % each if isinstance(each, str) else "%5d" % each for each in columns)]
+    lines = ["%-13s" % "" + "".join("%9s" % each if isinstance(each, str) else "%5d" % each for each in columns)]
     for kind in [word.decode() for word in model.FIELDS] + ["other"]:
-        lines.append("%-8s" % kind + "".join(
+        lines.append("%-13s" % kind + "".join(
             ("%9s" if isinstance(each, str) else "%5s") % (counts[kind, each] or ".") for each in columns))
     return "\n".join(lines)
 

@@ -9,6 +9,8 @@ As a program, it answers standard input on standard output, as the desk does.
 import sys
 from typing import NamedTuple
 
+import velocities
+
 CIRCUITS = 4096
 SHORTEST, LONGEST = 3, 268
 
@@ -435,7 +437,23 @@ def octet(word):
     return octets(word)[0]
 
 
+def value(word):
+    """A measured value: a decimal, or the bits of a 64-bit number."""
+    number = velocities.typed(word)
+    if number is None:
+        raise BadLine
+    return number
+
+
+def mark(word):
+    """up or down."""
+    if word not in velocities.MARKS:
+        raise BadLine
+    return word.decode()
+
+
 ANY = to(4294967295)
+CODE = to(65535)
 ROOM = to(1024)
 CIRCUIT = to(4095)
 SMALL = to(255)
@@ -452,6 +470,14 @@ FIELDS = {
     b"set": (CIRCUIT, CIRCUIT, SMALL),
     b"act": (ANY, octets, ROOM),
     b"rows": (CIRCUIT, CIRCUIT),
+    b"velocity": (value, value),
+    b"velocity-back": (CODE, CODE),
+}
+
+# The requests that have a second form, with more fields.
+LONGER = {
+    b"velocity": (value, value, value, mark),
+    b"velocity-back": (CODE, CODE, SMALL, mark),
 }
 
 
@@ -461,12 +487,14 @@ def request(line):
         raise BadLine
     words = line.split(b" ")
     fields = FIELDS.get(words[0])
+    if fields is not None and len(words) != 1 + len(fields):
+        fields = LONGER.get(words[0])
     if fields is None or len(words) != 1 + len(fields):
         raise BadLine
     values = [field(word) for field, word in zip(fields, words[1:])]
     if words[0] in (b"own", b"set", b"rows") and values[0] > values[1]:
         raise BadLine
-    return words[0].decode(), values
+    return words[0].decode().replace("-", "_"), values
 
 
 def shown(these):
@@ -548,6 +576,14 @@ class Desk:
 
     def on_rows(self, first, last):
         return "rows " + shown(bytes(self.states[first:last + 1]))
+
+    def on_velocity(self, bearing, speed, vertical=None, mark=None):
+        codes = velocities.coded(bearing, speed, vertical)
+        return codes if refused(codes) else velocities.said(codes, mark)
+
+    def on_velocity_back(self, bearing, speed, vertical=None, mark=None):
+        values = velocities.known(bearing, speed, vertical)
+        return values if refused(values) else velocities.said(values, mark)
 
 
 def lines(data):

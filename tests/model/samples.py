@@ -122,6 +122,29 @@ SAMPLES = [
     ("act 1 05002A010103 1024", "refused 20"),
     ("rows 5 8", "rows 00010506"),
 
+    # Velocities: N <= b < N+1; within half of N, a half going up; from 65534.5 (vertical 254.5) the top; read back N itself.
+    ("velocity 12.5 80.2", "bearing 12 speed 80"),
+    ("velocity 12.5 80.5 3.4 up", "bearing 12 speed 81 vertical 3 up"),
+    ("velocity 0 0.49999999999999", "bearing 0 speed 0"),
+    ("velocity 0 0x3fdfffffffffffff", "bearing 0 speed 0"),             # 0.49999999999999994
+    ("velocity 0 0.5", "bearing 0 speed 1"),
+    ("velocity 0 0x0000000000000001", "bearing 0 speed 0"),             # the smallest subnormal
+    ("velocity -0 -0", "bearing 0 speed 0"),
+    ("velocity 0 -1", "refused 26"),
+    ("velocity 0 0x7ff8000000000000", "refused 26"),                    # not a number
+    ("velocity 0 0x7ff0000000000000", "refused 26"),                    # infinite
+    ("velocity 0 0xfff0000000000000", "refused 26"),
+    ("velocity 0 0x40efffcfffffffff", "bearing 0 speed 65534"),         # 65534.49999999999
+    ("velocity 0 65534.5", "bearing 0 speed 65535"),
+    ("velocity 0 0x7fe1ccf385ebc8a0", "bearing 0 speed 65535"),         # 1e308
+    ("velocity 0 0 254.4 down", "bearing 0 speed 0 vertical 254 down"),
+    ("velocity 0 0 254.5 down", "bearing 0 speed 0 vertical 255 down"),
+    ("velocity 0x40767fffffffffff 0", "bearing 359 speed 0"),           # 359.99999999999994
+    ("velocity 360 0", "refused 26"),
+    ("velocity-back 359 65535", "bearing 359 speed 65535"),
+    ("velocity-back 359 120 3 up", "bearing 359 speed 120 vertical 3 up"),
+    ("velocity-back 360 0", "refused 26"),
+
     # The tables as at the start.
     ("own 0 4095 0", "ok"),
     ("set 0 4095 0", "ok"),

@@ -6,8 +6,9 @@ use mathlib.Core.Bool.{Bool, true, false}
 use mathlib.Core.List.{List, [], _∷_, _++_}
 use native.Mathlib.Omega.{arith}
 use borrow.Author.Tests.{le-ltb, ltb-false, eqb-true}
-use lib.Dec.{ltb, eqb}
+use lib.Dec.{ltb, leb, eqb}
 use lib.ListN.{length, take, drop, replicate, length-append, length-take, length-drop, length-replicate}
+use lib.Ieee.{Float}
 use Rattle.octets.specs.Octet.{octets}
 use Rattle.octets.specs.Choice.{if_then_else_}
 use Rattle.octets.specs.Answer.{Answer, accepted, refused, _then_}
@@ -25,6 +26,16 @@ use Rattle.isup.specs.Read.{readOf}
 use Rattle.isup.specs.Write.{writeIn, writeOf, compactIn, compactOf}
 use Rattle.number.specs.Read.{numberIn, readNumberOf}
 use Rattle.number.specs.Write.{numberOctets, writeNumberOf}
+use Rattle.decimals.specs.declared.Real.{Real}
+use Rattle.decimals.specs.declared.Real.the-variants.{Is as Value, Not as NoValue}
+use Rattle.decimals.specs.Decimals.{realOf}
+use Rattle.velocity.specs.declared.Mark.{Mark}
+use Rattle.velocity.specs.declared.Mark.the-variants.{Upward, Downward}
+use Rattle.velocity.specs.declared.Velocity.the-variants.{Horizontal as Along, WithVertical as AlongAndUp}
+use Rattle.velocity.specs.declared.Codes.{Codes}
+use Rattle.velocity.specs.declared.Codes.the-variants.{Horizontal, WithVertical}
+use Rattle.velocity.specs.declared.Course.{Course}
+use Rattle.velocity.specs.Velocity.{codesOf, Stands, alone, beside, knownOf}
 use Rattle.hub.specs.Tables.{Tables, tables}
 use Rattle.hub.proofs.Called.{buffer-length}
 use Rattle.words.specs.Said.{said}
@@ -32,7 +43,7 @@ use Rattle.printing.specs.Sheet.{sheet, pour}
 use Rattle.printing.specs.Shown.{decimalIn, decimalOf, hexPairs, hexOf}
 use Rattle.printing.proofs.Pours.{pour-one, pour-append}
 use Rattle.requests.specs.Kinds.{FieldSays}
-use Rattle.requests.specs.Rows.{SHAPE, READ, WRITE, COMPACT, NUMBER, OWN, SET, ACT}
+use Rattle.requests.specs.Rows.{SHAPE, READ, WRITE, COMPACT, NUMBER, OWN, SET, ACT, VELOCITY, VELOCITY-LONG, VELOCITY-BACK, VELOCITY-BACK-LONG}
 use Rattle.requests.specs.Words.{Asked, asks, nothing, askedOf, numberAt, octetAt, octetsAt}
 use Rattle.requests.proofs.Sound.{Short, short}
 use Rattle.lines.specs.Lines.{counted, shown, refusal, faultLine, writtenLine, octetsLine, blank, lent}
@@ -40,6 +51,9 @@ use Rattle.lines.proofs.Pouring.{poured-front}
 use Rattle.read_lines.specs.Read.{optionalWord, shapeLine, partsLine, readLine}
 use Rattle.codec_lines.specs.Codec.{againLine, compactLine, foundLine, codecLine}
 use Rattle.number_lines.specs.Numbers.{signalsLine, numberLine, numbersLine}
+use Rattle.velocity_lines.specs.declared.Marked.{Marked}
+use Rattle.velocity_lines.specs.declared.Marked.the-variants.{Is, Not}
+use Rattle.velocity_lines.specs.Velocities.{typedMark, markWord, codesLine, codedLine, wholeIn, courseLine, knownLine, byValue, byMark, velocityLine, velocityLongLine, backLine, backLongLine, codeAt, velocitiesLine}
 use Rattle.table_lines.specs.Tables.{Turn, turn, Left, left, leftBy, spread, rowsLine, tableTurn, replyLine, actsOf, actTurn}
 use Rattle.answers.specs.Turns.{badTurn, turnBy, turnFor, turnOf, turnIn, withLineEnd}
 use Rattle.answers.proofs.Determined.{AnswersLine}
@@ -210,6 +224,66 @@ module _ (which : ℕ) (gs : List FieldSays) (h : ShortAll gs) where
           let x = writeNumberOf (numberAt gs 0) (numberAt gs 1) (numberAt gs 2) (octetsAt gs 3) (lent (numberAt gs 4)) in
           omega (arith, written-fits 1024 (x .left) (omega (arith, lent-length (numberAt gs 4), done-length (lent (numberAt gs 4)) (numberOctets (numberAt gs 0) (numberAt gs 1) (numberAt gs 2) (octetsAt gs 3)))) (x .answer))
 
+-- those for velocities
+mark-fits : (m : Mark) → length (markWord m) ≤ 5
+mark-fits Upward = omega arith
+mark-fits Downward = omega arith
+
+codes-fit : (c : Codes) → length (codesLine c) ≤ 100
+unfolding codesLine
+codes-fit (Horizontal b s) = omega (arith, length-append (counted "bearing " b) (counted " speed " s), counted-length "bearing " b, counted-length " speed " s)
+codes-fit (WithVertical b s u m) =
+    omega (arith, length-append (counted "bearing " b ++ counted " speed " s ++ counted " vertical " u) (markWord m), length-append (counted "bearing " b ++ counted " speed " s) (counted " vertical " u), length-append (counted "bearing " b) (counted " speed " s), counted-length "bearing " b, counted-length " speed " s, counted-length " vertical " u, mark-fits m)
+
+coded-fits : (x : Answer Codes) → length (codedLine x) ≤ 100
+unfolding codedLine
+coded-fits (accepted c) = codes-fit c
+coded-fits (refused n at) = omega (arith, counted-length "refused " n)
+
+course-fits : (c : Course) → length (courseLine c) ≤ 50
+unfolding courseLine
+course-fits c = omega (arith, length-append (counted "bearing " (wholeIn (c .bearing))) (counted " speed " (wholeIn (c .speed))), counted-length "bearing " (wholeIn (c .bearing)), counted-length " speed " (wholeIn (c .speed)))
+
+known-fits : (x : Answer Stands) → length (knownLine x) ≤ 100
+unfolding knownLine
+known-fits (accepted (alone c)) = omega (arith, course-fits c)
+known-fits (accepted (beside c u m)) = omega (arith, length-append (courseLine c ++ counted " vertical " (wholeIn u)) (markWord m), length-append (courseLine c) (counted " vertical " (wholeIn u)), course-fits c, counted-length " vertical " (wholeIn u), mark-fits m)
+known-fits (refused n at) = omega (arith, counted-length "refused " n)
+
+value-fits : (r : Real) (f : Float → List ℕ) → ((x : Float) → length (f x) ≤ 100) → length (byValue r f) ≤ 100
+value-fits (Value x) f h = h x
+value-fits NoValue f h = omega arith
+
+by-mark-fits : (r : Marked) (f : Mark → List ℕ) → ((m : Mark) → length (f m) ≤ 100) → length (byMark r f) ≤ 100
+by-mark-fits (Is m) f h = h m
+by-mark-fits Not f h = omega arith
+
+velocity-fits : (b s : List ℕ) → length (velocityLine b s) ≤ 100
+unfolding velocityLine
+velocity-fits b s = value-fits (realOf b) _ (λ x. value-fits (realOf s) _ (λ y. coded-fits (codesOf (Along x y))))
+
+velocity-long-fits : (b s u m : List ℕ) → length (velocityLongLine b s u m) ≤ 100
+unfolding velocityLongLine
+velocity-long-fits b s u m =
+    value-fits (realOf b) _ (λ x. value-fits (realOf s) _ (λ y. value-fits (realOf u) _ (λ z. by-mark-fits (typedMark m) _ (λ w. coded-fits (codesOf (AlongAndUp x y z w))))))
+
+back-long-fits : (b s u : ℕ) (m : List ℕ) → length (backLongLine b s u m) ≤ 100
+unfolding backLongLine
+back-long-fits b s u m = by-mark-fits (typedMark m) _ (λ w. known-fits (knownOf (WithVertical b s u w)))
+
+velocities-fit : (which : ℕ) (gs : List FieldSays) → length (velocitiesLine which gs) ≤ 40000
+unfolding velocitiesLine
+velocities-fit which gs = go (eqb which VELOCITY) (eqb which VELOCITY-LONG) (eqb which VELOCITY-BACK)
+  where
+    go : (a b c : Bool) → length (if a then velocityLine (octetsAt gs 0) (octetsAt gs 1)
+        else if b then velocityLongLine (octetsAt gs 0) (octetsAt gs 1) (octetsAt gs 2) (octetsAt gs 3)
+        else if c then backLine (codeAt gs 0) (codeAt gs 1)
+        else backLongLine (codeAt gs 0) (codeAt gs 1) (octetAt gs 2) (octetsAt gs 3)) ≤ 40000
+    go true b c = omega (arith, velocity-fits (octetsAt gs 0) (octetsAt gs 1))
+    go false true c = omega (arith, velocity-long-fits (octetsAt gs 0) (octetsAt gs 1) (octetsAt gs 2) (octetsAt gs 3))
+    go false false true = omega (arith, known-fits (knownOf (Horizontal (codeAt gs 0) (codeAt gs 1))))
+    go false false false = omega (arith, back-long-fits (codeAt gs 0) (codeAt gs 1) (octetAt gs 2) (octetsAt gs 3))
+
 module _ (T : Tables) (k : length (T .states) ≤ 4096) where
   -- those of the tables
   table-fits : (which : ℕ) (gs : List FieldSays) → length (tableTurn T which gs .line) ≤ 40000
@@ -231,18 +305,20 @@ module _ (T : Tables) (k : length (T .states) ≤ 4096) where
   -- whatever is asked
   asked-fits : (a : Asked) → Short a → length (turnFor T a .line) ≤ 40000
   unfolding turnBy
-  asked-fits (asks which gs) h = go (ltb which NUMBER) (ltb which OWN) (ltb which ACT) (eqb which ACT)
+  asked-fits (asks which gs) h = go (ltb which NUMBER) (ltb which OWN) (ltb which ACT) (eqb which ACT) (leb which VELOCITY-BACK-LONG)
     where
-      go : (a b c d : Bool) → length ((if a then turn T (codecLine which gs)
+      go : (a b c d e : Bool) → length ((if a then turn T (codecLine which gs)
           else if b then turn T (numbersLine which gs)
           else if c then tableTurn T which gs
           else if d then actTurn T gs
+          else if e then turn T (velocitiesLine which gs)
           else badTurn T) .line) ≤ 40000
-      go true b c d = codec-fits which gs h
-      go false true c d = numbers-fit which gs h
-      go false false true d = table-fits which gs
-      go false false false true = act-fits gs
-      go false false false false = omega arith
+      go true b c d e = codec-fits which gs h
+      go false true c d e = numbers-fit which gs h
+      go false false true d e = table-fits which gs
+      go false false false true e = act-fits gs
+      go false false false false true = velocities-fit which gs
+      go false false false false false = omega arith
   asked-fits nothing h = omega arith
 
 -- of every line
@@ -256,8 +332,8 @@ answer-fits line T = go (eqb (length (T .states)) 4096) (eqb (length (T .owners)
     go false true e = omega (arith, counted-length "refused " 16)
     go false false e = omega (arith, counted-length "refused " 16)
 
--- so with 4096 octets of scratch a buffer of 65536 octets holds the whole line with its LF, at its front
-pub answer-whole : (scratch : ℕ) (line : List ℕ) (T : Tables) (buffer : List ℕ) (U : Tables) (b : List ℕ) (n : ℕ) → 4096 ≤ scratch → length buffer ≡ 65536 → AnswersLine scratch line T buffer U b n → (U ≡ turnOf line T .tables) × (take n b ≡ turnOf line T .line ++ (10 ∷ []))
+-- so with 4168 octets of scratch a buffer of 65536 octets holds the whole line with its LF, at its front
+pub answer-whole : (scratch : ℕ) (line : List ℕ) (T : Tables) (buffer : List ℕ) (U : Tables) (b : List ℕ) (n : ℕ) → 4168 ≤ scratch → length buffer ≡ 65536 → AnswersLine scratch line T buffer U b n → (U ≡ turnOf line T .tables) × (take n b ≡ turnOf line T .line ++ (10 ∷ []))
 answer-whole scratch line T buffer U b n k h e =
     let t = turnOf line T in
     let same : turnIn scratch line T ≡ t = rw (le-ltb _ _ k) refl in

@@ -4,18 +4,19 @@ use mathlib.Core.Path.{_≡_, refl, _∙_, ap}
 use mathlib.Core.Bool.{Bool, true, false}
 use mathlib.Core.List.{List}
 use borrow.Author.Tests.{eqb-true}
-use lib.Dec.{ltb, eqb}
+use lib.Dec.{ltb, leb, eqb}
 use Rattle.octets.specs.Answer.{refused}
 use Rattle.octets.specs.Choice.{if_then_else_}
 use Rattle.hub.specs.Tables.{Tables, tables, sized}
 use Rattle.hub.proofs.Called.{act-keeps}
 use Rattle.words.specs.Said.{said}
 use Rattle.requests.specs.Kinds.{FieldSays}
-use Rattle.requests.specs.Rows.{NUMBER, OWN, SET, ACT}
+use Rattle.requests.specs.Rows.{NUMBER, OWN, SET, ACT, VELOCITY-BACK-LONG}
 use Rattle.requests.specs.Words.{Asked, asks, nothing, askedOf, numberAt, octetAt, octetsAt}
 use Rattle.lines.specs.Lines.{refusal, lent}
 use Rattle.codec_lines.specs.Codec.{codecLine}
 use Rattle.number_lines.specs.Numbers.{numbersLine}
+use Rattle.velocity_lines.specs.Velocities.{velocitiesLine}
 use Rattle.table_lines.specs.Tables.{Turn, turn, spread, rowsLine, tableTurn, actsOf, actTurn}
 use Rattle.answers.specs.Turns.{badTurn, turnBy, turnFor, turnOf}
 
@@ -53,35 +54,38 @@ module _ (T : Tables) (which : ℕ) (gs : List FieldSays) where
 
 module _ (T : Tables) (which : ℕ) (gs : List FieldSays) where
   -- the choice of a family
-  abbrev chosenFamily : Bool → Bool → Bool → Bool → Turn
-  chosenFamily a b c d =
+  abbrev chosenFamily : Bool → Bool → Bool → Bool → Bool → Turn
+  chosenFamily a b c d v =
       if a then turn T (codecLine which gs)
       else if b then turn T (numbersLine which gs)
       else if c then tableTurn T which gs
       else if d then actTurn T gs
+      else if v then turn T (velocitiesLine which gs)
       else badTurn T
 
   owners-by : (which ≡ OWN → ⊥) → turnBy T which gs .tables .owners ≡ T .owners
   unfolding turnBy actTurn
-  owners-by h = go (ltb which NUMBER) (ltb which OWN) (ltb which ACT) (eqb which ACT)
+  owners-by h = go (ltb which NUMBER) (ltb which OWN) (ltb which ACT) (eqb which ACT) (leb which VELOCITY-BACK-LONG)
     where
-      go : (a b c d : Bool) → chosenFamily a b c d .tables .owners ≡ T .owners
-      go true b c d = refl
-      go false true c d = refl
-      go false false true d = table-owners T which gs h
-      go false false false true = refl
-      go false false false false = refl
+      go : (a b c d v : Bool) → chosenFamily a b c d v .tables .owners ≡ T .owners
+      go true b c d v = refl
+      go false true c d v = refl
+      go false false true d v = table-owners T which gs h
+      go false false false true v = refl
+      go false false false false true = refl
+      go false false false false false = refl
 
   states-by : (which ≡ SET → ⊥) → (which ≡ ACT → Refused T gs) → turnBy T which gs .tables .states ≡ T .states
   unfolding turnBy actTurn
-  states-by h r = go (ltb which NUMBER) (ltb which OWN) (ltb which ACT) (eqb which ACT) refl
+  states-by h r = go (ltb which NUMBER) (ltb which OWN) (ltb which ACT) (eqb which ACT) (leb which VELOCITY-BACK-LONG) refl
     where
-      go : (a b c d : Bool) → eqb which ACT ≡ d → chosenFamily a b c d .tables .states ≡ T .states
-      go true b c d e = refl
-      go false true c d e = refl
-      go false false true d e = table-states T which gs h
-      go false false false true e = let f = r (eqb-true which ACT e) in act-keeps T (numberAt gs 0) (octetsAt gs 1) (lent (numberAt gs 2)) (f .0) (f .1) (f .2) .0
-      go false false false false e = refl
+      go : (a b c d v : Bool) → eqb which ACT ≡ d → chosenFamily a b c d v .tables .states ≡ T .states
+      go true b c d v e = refl
+      go false true c d v e = refl
+      go false false true d v e = table-states T which gs h
+      go false false false true v e = let f = r (eqb-true which ACT e) in act-keeps T (numberAt gs 0) (octetsAt gs 1) (lent (numberAt gs 2)) (f .0) (f .1) (f .2) .0
+      go false false false false true e = refl
+      go false false false false false e = refl
 
 module _ (line : List ℕ) (T : Tables) where
   -- a line that is no request changes no table

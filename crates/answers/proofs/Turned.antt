@@ -4,7 +4,7 @@ use mathlib.Core.Path.{_≡_, refl, _∙_, ap}
 use mathlib.Core.Bool.{Bool, true, false}
 use mathlib.Core.List.{List}
 use native.Mathlib.Omega.{arith}
-use borrow.Author.Tests.{lt-ltb, le-ltb, eq-eqb, ne-eqb, eqb-true}
+use borrow.Author.Tests.{lt-ltb, le-ltb, le-leb, lt-leb, eq-eqb, ne-eqb, eqb-true}
 use lib.Dec.{eqb}
 use lib.ListN.{length}
 use Rattle.octets.specs.Choice.{if_then_else_}
@@ -19,6 +19,7 @@ use Rattle.requests.proofs.Said.{number-at}
 use Rattle.lines.specs.Lines.{refusal}
 use Rattle.codec_lines.specs.Codec.{codecLine}
 use Rattle.number_lines.specs.Numbers.{numbersLine}
+use Rattle.velocity_lines.specs.Velocities.{velocitiesLine}
 use Rattle.table_lines.specs.Tables.{turn, tableTurn, actTurn}
 use Rattle.answers.specs.Turns.{badTurn, turnBy, turnFor, turnOf, turnIn}
 
@@ -40,12 +41,20 @@ module _ (T : Tables) (which : ℕ) (gs : List FieldSays) where
   unfolding turnBy
   turn-hub e = rw e refl
 
-  pub turn-none : 10 ≤ which → (which ≡ 10 → ⊥) → badTurn T ≡ turnBy T which gs
+  pub turn-velocities : 10 ≤ which → (which ≡ 10 → ⊥) → which ≤ 14 → turn T (velocitiesLine which gs) ≡ turnBy T which gs
   unfolding turnBy
-  turn-none l n =
+  turn-velocities l n h =
       let m : 5 ≤ which = omega arith in
       let k : 7 ≤ which = omega arith in
-      rw (le-ltb _ _ m, le-ltb _ _ k, le-ltb _ _ l, ne-eqb _ _ n) refl
+      rw (le-ltb _ _ m, le-ltb _ _ k, le-ltb _ _ l, ne-eqb _ _ n, le-leb _ _ h) refl
+
+  pub turn-none : (which ≡ 10 → ⊥) → 14 < which → badTurn T ≡ turnBy T which gs
+  unfolding turnBy
+  turn-none n h =
+      let m : 5 ≤ which = omega arith in
+      let k : 7 ≤ which = omega arith in
+      let l : 10 ≤ which = omega arith in
+      rw (le-ltb _ _ m, le-ltb _ _ k, le-ltb _ _ l, ne-eqb _ _ n, lt-leb _ _ h) refl
 
 -- the requests of the tables have no octets
 pub table-any : (T : Tables) (which : ℕ) (s t : List ℕ) (fs : List Field) → tableTurn T which (saidIn s fs) ≡ tableTurn T which (saidIn t fs)
@@ -64,7 +73,7 @@ says-turn T r s = go (eqb (r .which) 255) refl
     go true e = none (eqb-true (r .which) 255 e)
     go false e = refl
 
-module _ (line scratch rest : List ℕ) (r : Request) (e : taken r rest ≡ requestOf line scratch) (h : 4096 ≤ length scratch) where
+module _ (line scratch rest : List ℕ) (r : Request) (e : taken r rest ≡ requestOf line scratch) (h : 4168 ≤ length scratch) where
   -- the request that was read asks what the line asks
   asked-same : saysOf (taken r rest) ≡ askedOf line
   asked-same = ap saysOf e ∙ request-says line scratch h
@@ -76,13 +85,13 @@ module _ (line scratch rest : List ℕ) (r : Request) (e : taken r rest ≡ requ
 
 -- where a table or the scratch is too short
 module _ (line : List ℕ) (n : ℕ) (T : Tables) where
-  pub turn-scratch : n < 4096 → badTurn T ≡ turnIn n line T
+  pub turn-scratch : n < 4168 → badTurn T ≡ turnIn n line T
   turn-scratch h = rw (lt-ltb _ _ h) refl
 
-  pub turn-states : 4096 ≤ n → (length (T .states) ≡ 4096 → ⊥) → turn T (refusal 16) ≡ turnIn n line T
+  pub turn-states : 4168 ≤ n → (length (T .states) ≡ 4096 → ⊥) → turn T (refusal 16) ≡ turnIn n line T
   unfolding turnOf
   turn-states h p = rw (le-ltb _ _ h, ne-eqb _ _ p) refl
 
-  pub turn-owners : 4096 ≤ n → length (T .states) ≡ 4096 → (length (T .owners) ≡ 4096 → ⊥) → turn T (refusal 16) ≡ turnIn n line T
+  pub turn-owners : 4168 ≤ n → length (T .states) ≡ 4096 → (length (T .owners) ≡ 4096 → ⊥) → turn T (refusal 16) ≡ turnIn n line T
   unfolding turnOf
   turn-owners h p q = rw (le-ltb _ _ h, eq-eqb _ _ p, ne-eqb _ _ q) refl

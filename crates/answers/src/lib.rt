@@ -10,12 +10,13 @@ use requests::ACT;
 use requests::NUMBER;
 use requests::OWN;
 use requests::Request;
+use requests::VELOCITY_BACK_LONG;
 
 // How many circuits there are, each with an octet in each table.
 const CIRCUITS: usize = 4096;
 
 // The octets of scratch that a line asks for.
-const SCRATCH_LEAST: usize = 4096;
+const SCRATCH_LEAST: usize = 4168;
 
 // The answer's line to a request, by its family.
 fn answer_request(
@@ -39,6 +40,9 @@ fn answer_request(
     }
     if request.which == ACT {
         return table_lines::act_turn(request, octets, states, owners, out);
+    }
+    if request.which <= VELOCITY_BACK_LONG {
+        return velocity_lines::velocities_line(request, octets, out);
     }
     printing::put_text(b"bad line", out, 0)
 }
@@ -69,7 +73,7 @@ fn answer_line(
 
 // Answers a line: the tables are as the request left them, and the answer's line, with its LF, is at the front of `out`. Answers how many octets it has.
 // A line that is no request, or that is refused, changes no table. What `out` has no room for is left out.
-// The octets of the line's fields are put into `scratch`. What it holds afterwards is not said; what it held before changes nothing, but with fewer than 4096 octets of it each line is a bad one.
+// The octets of the line's fields are put into `scratch`. What it holds afterwards is not said; what it held before changes nothing, but with fewer than 4168 octets of it each line is a bad one.
 pub fn answer(
     line: &[u8],
     states: &mut [u8],

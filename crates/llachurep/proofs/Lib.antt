@@ -5,4 +5,6 @@ pub mod Determined
 pub mod Keeps
 pub mod Judged
 pub mod Numbers
+pub mod Speeds
+pub mod Spoken
 pub mod Refused

@@ -17,6 +17,9 @@ use Rattle.number.specs.Read.{readNumberOf}
 use Rattle.number.specs.Write.{writeNumberOf}
 use Rattle.number.specs.Faults.{readFaults, numberWriteFaults}
 use Rattle.number.proofs.Judged.{read-number-judged, write-number-judged}
+use Rattle.velocity.specs.declared.Velocity.{Velocity}
+use Rattle.llachurep.specs.Velocities.{codeGives, codeGivesFaults}
+use Rattle.llachurep.proofs.Speeds.{code-gives-judges}
 use Rattle.llachurep.specs.Boundary.{valuesOf, readGives, findGives}
 
 -- 13 comes with no octet
@@ -53,3 +56,6 @@ number-write-placeless nature plan internal signals buffer =
 
 pub number-write-place : (nature plan internal : ℕ) (signals buffer : List ℕ) (n at : ℕ) → writeNumberOf nature plan internal signals buffer .answer ≡ refused n at → at ≤ 268
 number-write-place nature plan internal signals buffer n at e = omega (arith, number-write-placeless nature plan internal signals buffer n at e)
+
+pub code-gives-place : (v : Velocity) (codes : List ℕ) (n at : ℕ) → codeGives v codes .answer ≡ refused n at → at ≤ 268
+code-gives-place v codes n at e = omega (arith, refusal-so Placeless _ (codeGivesFaults v codes) (code-gives-judges v codes) (λ at h. h .0, (λ at h. h .0, tt)) n at e)

@@ -16,6 +16,7 @@ use Rattle.isup.proofs.Places.{compact-places-within}
 use Rattle.number.specs.Read.{readNumberOf, numberIn}
 use Rattle.number.specs.Write.{writeNumberOf, numberOctets}
 use Rattle.number.proofs.Judged.{read-number-judged, write-number-judged}
+use Rattle.velocity.specs.declared.Velocity.{Velocity}
 use Rattle.hub.specs.Tables.{Tables}
 use Rattle.hub.specs.Acts.{actOf}
 use Rattle.hub.specs.Faults.{actFaults}
@@ -24,11 +25,13 @@ use Rattle.hub.proofs.Judged.{act-refuses-exactly}
 use Rattle.hub.proofs.Places.{act-places-within}
 use Rattle.llachurep.specs.Boundary.{packed, packedNumber, Given, given, givenBy, numberGiven, Called, called, calledBy, readGives, findGives}
 use Rattle.llachurep.specs.Refuses.{Refuses}
+use Rattle.llachurep.specs.Velocities.{codeGives}
 use Rattle.llachurep.proofs.Small.{write-small, compact-small, read-gives-small, find-gives-small, number-read-small, number-small, act-small}
-use Rattle.llachurep.proofs.Places.{read-gives-place, find-gives-place, write-place, number-write-place, number-read-placeless}
+use Rattle.llachurep.proofs.Places.{read-gives-place, find-gives-place, write-place, number-write-place, number-read-placeless, code-gives-place}
 use Rattle.llachurep.proofs.Keeps.{read-gives-keeps, find-gives-keeps}
 use Rattle.llachurep.proofs.Judged.{read-gives-judges, find-gives-judges}
 use Rattle.llachurep.proofs.Numbers.{AtLeastOne, read-from-one, find-from-one, write-from-one, compact-from-one, number-read-from-one, number-write-from-one, act-from-one}
+use Rattle.llachurep.proofs.Speeds.{code-gives-small, code-gives-judges, code-gives-keeps}
 
 -- an answer whose values are below the unit, and whose refusals come times it, from 1 on, with an octet below it
 module _ {A : Type 0} (unit : ℕ) (up : (n : ℕ) → 1 ≤ n → unit ≤ unit * n) (halves : (n at : ℕ) → at < unit → ((unit * n + at) / unit ≡ n) × ((unit * n + at) % unit ≡ at)) (under : (k : ℕ) → k < unit → k / unit ≡ 0)
@@ -127,3 +130,7 @@ act-refuses T sender m buffer o r states left e = (
       first-so AtLeastOne (actFaults T sender m (length buffer)) n at (act-from-one T sender m (length buffer)) (act-refuses-exactly T sender m buffer n at .0 q),
       omega (arith, act-places-within T sender m buffer n at q),
     )
+
+-- of coding a velocity
+pub code-refuses : (v : Velocity) (codes : List ℕ) (r : ℕ) (left : List ℕ) → given r left ≡ givenBy (codeGives v codes) → Refuses 65536 r (codeGives v codes .answer) codes left
+code-refuses v codes r left = by-32 (codeGives v codes) r codes left (code-gives-small v codes) (refusal-so AtLeastOne _ _ (code-gives-judges v codes) (λ _ _. omega arith, (λ _ _. omega arith, tt))) (code-gives-place v codes) (code-gives-keeps v codes)

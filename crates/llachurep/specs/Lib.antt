@@ -1,3 +1,4 @@
 pub mod Boundary
 pub mod Faults
 pub mod Refuses
+pub mod Velocities

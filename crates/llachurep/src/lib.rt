@@ -13,6 +13,9 @@ ghost use Rattle.hub.specs.Acts.{actOf};
 ghost use Rattle.octets.specs.Told.{writtenTold};
 ghost use Rattle.layout.specs.Spans.{spanSize};
 ghost use Rattle.llachurep.specs.Boundary.{packed, given, givenBy, fixedStart, valuesOf, Small, readGives, findGives, numberGiven, called, calledBy};
+
+pub mod velocities;
+
 use finding::Located;
 use isup::Message;
 use isup::Reading;

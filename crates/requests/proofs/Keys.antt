@@ -1,7 +1,7 @@
 -- No two words have the same key, so a row is found by its key.
 use Prim.Native.Nat.{ℕ, zero, suc, _+_, _*_, _-_, _/_, _%_, _≤_, _<_}
 use mathlib.Core.Path.{_≡_, refl, sym, _∙_, ap}
-use mathlib.Core.Bool.{Bool, true, false, false≢true}
+use mathlib.Core.Bool.{Bool, true, false, not, false≢true}
 use mathlib.Core.List.{List, [], _∷_, map}
 use mathlib.Core.Logic.{⊎-elim}
 use native.Mathlib.Omega.{arith}
@@ -12,10 +12,12 @@ use lib.Seq.{drop-cons}
 use Rattle.octets.specs.Choice.{if_then_else_}
 use Rattle.octets.proofs.Choice.{chosen, decided}
 use Rattle.words.specs.Words.{same}
+use Rattle.requests.specs.declared.Field.{Field}
 use Rattle.requests.specs.declared.Row.{Row}
+use Rattle.requests.specs.Kinds.{Found, found, lost, orElse}
 use Rattle.requests.specs.Table.{Form, kindOf, kindsOf}
-use Rattle.requests.specs.Along.{fieldsOf, bad, Asking, taken, takenBy, firstForm}
-use Rattle.requests.specs.Inside.{letterOf, lettersAll, digitsOf, keyOf, lettersPacked, kindsIn, rowIn}
+use Rattle.requests.specs.Along.{fieldsOf, request, bad, Asking, taken, takenBy, tried, firstForm}
+use Rattle.requests.specs.Inside.{letterOf, lettersAll, digitsOf, keyOf, lettersPacked, kindsIn, lettersNext, rowIn}
 
 -- a letter is at most 27, and says its octet
 letter-back : (c : ℕ) → (letterOf c ≡ 0 → ⊥) → (letterOf c ≤ 27) × (c ≡ (if eqb (letterOf c) 27 then 45 else letterOf c + 96))
@@ -65,7 +67,7 @@ same-eq (a ∷ xs) (b ∷ bs) e = ⊎-elim (λ x. let h : a ≡ b = eqb-true a b
 -- a key that is not 0 is that of letters
 key-valid : (w : List ℕ) → (keyOf w ≡ 0 → ⊥) → (lettersAll w ≡ true) × (keyOf w ≡ digitsOf w)
 unfolding keyOf
-key-valid w n = go (ltb 12 (length w)) (lettersAll w) refl n
+key-valid w n = go (ltb 13 (length w)) (lettersAll w) refl n
   where
     go : (s t : Bool) → lettersAll w ≡ t → ((if s then 0 else if t then digitsOf w else 0) ≡ 0 → ⊥) → (t ≡ true) × ((if s then 0 else if t then digitsOf w else 0) ≡ digitsOf w)
     go true t e m = absurd (m refl)
@@ -109,38 +111,133 @@ abbrev pub keyed : List Form → Bool
 keyed [] = true
 keyed (f ∷ fs) = if eqb (keyOf (f .word)) 0 then false else if ltb 8 (length (f .letters)) then false else if small (f .letters) then keyed fs else false
 
+-- whether no row has a word with that key
+abbrev absent : ℕ → List Form → Bool
+absent key [] = true
+absent key (f ∷ fs) = if eqb key (keyOf (f .word)) then false else absent key fs
+
+-- whether the next row alone may have a word with that key, and then fields
+abbrev alone : ℕ → List Form → Bool
+alone key [] = true
+alone key (f ∷ fs) = if eqb key (keyOf (f .word)) then (if eqb (lettersPacked (f .letters)) 0 then false else absent key fs) else absent key fs
+
+-- whether each word has one form, or two that stand together
+abbrev pub paired : List Form → Bool
+paired [] = true
+paired (f ∷ fs) = if alone (keyOf (f .word)) fs then paired fs else false
+
+-- what a line asks by the other form of its word
+abbrev pub byLonger : List ℕ → ℕ → Row → List ℕ → Asking
+byLonger line end r left = if eqb (r .longer) 0 then taken bad left else takenBy (r .which + 1) (fieldsOf (kindsIn 8 (r .longer)) 0 line end left 0)
+
 -- what a line asks by its row
 abbrev pub byRow : List ℕ → ℕ → List ℕ → Row → Asking
-byRow line end scratch r = if eqb (r .which) 255 then taken bad scratch else takenBy (r .which) (fieldsOf (kindsIn 8 (r .letters)) 0 line end scratch 0)
+byRow line end scratch r =
+    if eqb (r .which) 255 then taken bad scratch
+    else tried (r .which) (fieldsOf (kindsIn 8 (r .letters)) 0 line end scratch 0 .fit) (fieldsOf (kindsIn 8 (r .letters)) 0 line end scratch 0 .left) (byLonger line end r)
 
-module _ (line : List ℕ) (end : ℕ) (scratch : List ℕ) where
-  -- the row that a word's key finds is the first of that word
-  pub row-first : (fs : List Form) (i : ℕ) → keyed fs ≡ true → i + length fs ≤ 255 → byRow line end scratch (rowIn fs i (keyOf (take end line))) ≡ firstForm fs i line end scratch
-  unfolding rowIn firstForm
-  row-first [] i g m = refl
-  row-first (f ∷ fs) i g m =
+-- a row of the table, as the table has it
+abbrev Keyed : Form → List Form → Type 0
+Keyed f fs = (keyOf (f .word) ≡ 0 → ⊥) × (kindsIn 8 (lettersPacked (f .letters)) ≡ kindsOf f) × (keyed fs ≡ true)
+
+keyed-row : (f : Form) (fs : List Form) → keyed (f ∷ fs) ≡ true → Keyed f fs
+keyed-row f fs g =
+    ⊎-elim (λ x. absurd (false≢true (x .1)))
+    (λ x. ⊎-elim (λ y. absurd (false≢true (y .1)))
+    (λ y. ⊎-elim (λ z. (eqb-false _ _ (x .0), kinds-packed 8 (f .letters) (ltb-false _ _ (y .0)) (z .0), z .1))
+    (λ z. absurd (false≢true (z .1))) (chosen (small (f .letters)) (y .1)))
+    (chosen (ltb 8 (length (f .letters))) (x .1)))
+    (chosen (eqb (keyOf (f .word)) 0) g)
+
+-- where fields are tried, and then the same is gone on with
+pub tried-same : (which : ℕ) (x : Found (List Field)) (left : List ℕ) {g h : List ℕ → Asking} → ((l : List ℕ) → g l ≡ h l) → tried which x left g ≡ tried which x left h
+tried-same which (found fs) left e = refl
+tried-same which lost left e = e left
+
+pub tried-bad : (which : ℕ) (x : Found (List Field)) (left : List ℕ) → tried which x left (taken bad) ≡ taken (orElse x (request which) bad) left
+tried-bad which (found fs) left = refl
+tried-bad which lost left = refl
+
+module _ (line : List ℕ) (end : ℕ) where
+  -- no row has the word
+  none-first : (fs : List Form) (i : ℕ) (scratch : List ℕ) → keyed fs ≡ true → absent (keyOf (take end line)) fs ≡ true → taken bad scratch ≡ firstForm fs i line end scratch
+  unfolding firstForm
+  none-first [] i scratch g m = refl
+  none-first (f ∷ fs) i scratch g m =
+      let k = keyed-row f fs g in
       ⊎-elim (λ x. absurd (false≢true (x .1)))
-      (λ x. ⊎-elim (λ y. absurd (false≢true (y .1)))
-      (λ y. ⊎-elim (λ z. step (eqb-false _ _ (x .0)) (kinds-packed 8 (f .letters) (ltb-false _ _ (y .0)) (z .0)) (row-first fs (suc i) (z .1) (omega arith)))
-      (λ z. absurd (false≢true (z .1))) (chosen (small (f .letters)) (y .1)))
-      (chosen (ltb 8 (length (f .letters))) (x .1)))
-      (chosen (eqb (keyOf (f .word)) 0) g)
-    where
-      go : (t : Bool) → kindsIn 8 (lettersPacked (f .letters)) ≡ kindsOf f → byRow line end scratch (rowIn fs (suc i) (keyOf (take end line))) ≡ firstForm fs (suc i) line end scratch
-          → byRow line end scratch (if t then record { which = i; letters = lettersPacked (f .letters) } else rowIn fs (suc i) (keyOf (take end line)))
-          ≡ (if t then takenBy i (fieldsOf (kindsOf f) 0 line end scratch 0) else firstForm fs (suc i) line end scratch)
-      go true k ih = rw (ne-eqb i 255 (λ z. omega arith), k) refl
-      go false k ih = ih
+      (λ x. rw (same-key (take end line) (f .word) (k .0), x .0) (none-first fs (suc i) scratch (k .2) (x .1)))
+      (chosen (eqb (keyOf (take end line)) (keyOf (f .word))) m)
 
-      step : (keyOf (f .word) ≡ 0 → ⊥) → kindsIn 8 (lettersPacked (f .letters)) ≡ kindsOf f → byRow line end scratch (rowIn fs (suc i) (keyOf (take end line))) ≡ firstForm fs (suc i) line end scratch
-          → byRow line end scratch (if eqb (keyOf (take end line)) (keyOf (f .word)) then record { which = i; letters = lettersPacked (f .letters) } else rowIn fs (suc i) (keyOf (take end line)))
-          ≡ (if same (take end line) (f .word) then takenBy i (fieldsOf (kindsOf f) 0 line end scratch 0) else firstForm fs (suc i) line end scratch)
-      step n k ih = rw (same-key (take end line) (f .word) n) (go (eqb (keyOf (take end line)) (keyOf (f .word))) k ih)
+  -- the other form of the word, which stands next, or none
+  next-first : (fs : List Form) (i : ℕ) (r : Row) → r .which ≡ i → r .longer ≡ lettersNext fs (keyOf (take end line)) → keyed fs ≡ true → alone (keyOf (take end line)) fs ≡ true
+      → (left : List ℕ) → byLonger line end r left ≡ firstForm fs (suc i) line end left
+  unfolding firstForm
+  next-first [] i r w l g m left = rw l refl
+  next-first (f ∷ fs) i r w l g m left =
+      let k = keyed-row f fs g in
+      ⊎-elim (λ x. there k (x .0) (x .1)) (λ x. other (x .0) (x .1)) (chosen (eqb (keyOf (take end line)) (keyOf (f .word))) m)
+    where
+      other : eqb (keyOf (take end line)) (keyOf (f .word)) ≡ false → absent (keyOf (take end line)) fs ≡ true → byLonger line end r left ≡ firstForm (f ∷ fs) (suc i) line end left
+      other e a =
+          let none : r .longer ≡ 0 = l ∙ rw e refl in
+          let gone : absent (keyOf (take end line)) (f ∷ fs) ≡ true = rw e a in
+          rw none (none-first (f ∷ fs) (suc i) left g gone)
+
+      there : Keyed f fs → eqb (keyOf (take end line)) (keyOf (f .word)) ≡ true → (if eqb (lettersPacked (f .letters)) 0 then false else absent (keyOf (take end line)) fs) ≡ true → byLonger line end r left ≡ firstForm (f ∷ fs) (suc i) line end left
+      there k e a =
+          ⊎-elim (λ x. absurd (false≢true (x .1)))
+          (λ x.
+          let some : r .longer ≡ lettersPacked (f .letters) = l ∙ rw e refl in
+          let next : r .which + 1 ≡ suc i = omega arith in
+          rw (some, x .0, next, k .1, same-key (take end line) (f .word) (k .0), e)
+          (sym (tried-bad (suc i) (fieldsOf (kindsOf f) 0 line end left 0 .fit) (fieldsOf (kindsOf f) 0 line end left 0 .left))
+          ∙ tried-same (suc i) (fieldsOf (kindsOf f) 0 line end left 0 .fit) (fieldsOf (kindsOf f) 0 line end left 0 .left) (λ l′. none-first fs (suc (suc i)) l′ (k .2) (x .1))))
+          (chosen (eqb (lettersPacked (f .letters)) 0) a)
+
+  module _ (scratch : List ℕ) where
+    -- the row that a word's key finds is the first of that word
+    pub row-first : (fs : List Form) (i : ℕ) → keyed fs ≡ true → paired fs ≡ true → i + length fs ≤ 255 → byRow line end scratch (rowIn fs i (keyOf (take end line))) ≡ firstForm fs i line end scratch
+    unfolding rowIn firstForm
+    row-first [] i g p m = refl
+    row-first (f ∷ fs) i g p m =
+        let k = keyed-row f fs g in
+        ⊎-elim (λ x. step k (x .0) (row-first fs (suc i) (k .2) (x .1) (omega arith))) (λ x. absurd (false≢true (x .1))) (chosen (alone (keyOf (f .word)) fs) p)
+      where
+        here : Keyed f fs → keyOf (take end line) ≡ keyOf (f .word) → alone (keyOf (f .word)) fs ≡ true
+            → byRow line end scratch (record { which = i; letters = lettersPacked (f .letters); longer = lettersNext fs (keyOf (take end line)) })
+            ≡ tried i (fieldsOf (kindsOf f) 0 line end scratch 0 .fit) (fieldsOf (kindsOf f) 0 line end scratch 0 .left) (λ left. firstForm fs (suc i) line end left)
+        here k e a =
+            let b : alone (keyOf (take end line)) fs ≡ true = rw e a in
+            rw (ne-eqb i 255 (λ z. omega arith), k .1)
+            (tried-same i (fieldsOf (kindsOf f) 0 line end scratch 0 .fit) (fieldsOf (kindsOf f) 0 line end scratch 0 .left)
+            (next-first fs i (record { which = i; letters = lettersPacked (f .letters); longer = lettersNext fs (keyOf (take end line)) }) refl refl (k .2) b))
+
+        go : (t : Bool) → eqb (keyOf (take end line)) (keyOf (f .word)) ≡ t → Keyed f fs → alone (keyOf (f .word)) fs ≡ true → byRow line end scratch (rowIn fs (suc i) (keyOf (take end line))) ≡ firstForm fs (suc i) line end scratch
+            → byRow line end scratch (if t then record { which = i; letters = lettersPacked (f .letters); longer = lettersNext fs (keyOf (take end line)) } else rowIn fs (suc i) (keyOf (take end line)))
+            ≡ (if t then tried i (fieldsOf (kindsOf f) 0 line end scratch 0 .fit) (fieldsOf (kindsOf f) 0 line end scratch 0 .left) (λ left. firstForm fs (suc i) line end left) else firstForm fs (suc i) line end scratch)
+        go true e k a ih = here k (eqb-true _ _ e) a
+        go false e k a ih = ih
+
+        step : Keyed f fs → alone (keyOf (f .word)) fs ≡ true → byRow line end scratch (rowIn fs (suc i) (keyOf (take end line))) ≡ firstForm fs (suc i) line end scratch
+            → byRow line end scratch (if eqb (keyOf (take end line)) (keyOf (f .word)) then record { which = i; letters = lettersPacked (f .letters); longer = lettersNext fs (keyOf (take end line)) } else rowIn fs (suc i) (keyOf (take end line)))
+            ≡ (if same (take end line) (f .word) then tried i (fieldsOf (kindsOf f) 0 line end scratch 0 .fit) (fieldsOf (kindsOf f) 0 line end scratch 0 .left) (λ left. firstForm fs (suc i) line end left) else firstForm fs (suc i) line end scratch)
+        step k a ih = rw (same-key (take end line) (f .word) (k .0)) (go (eqb (keyOf (take end line)) (keyOf (f .word))) refl k a ih)
+
+-- a row's number is 255 at the most
+pub row-small : (fs : List Form) (i key : ℕ) → i + length fs ≤ 255 → rowIn fs i key .which ≤ 255
+unfolding rowIn
+row-small [] i key h = omega arith
+row-small (f ∷ fs) i key h = go (eqb key (keyOf (f .word))) (row-small fs (suc i) key (omega arith))
+  where
+    go : (t : Bool) → rowIn fs (suc i) key .which ≤ 255 → (if t then record { which = i; letters = lettersPacked (f .letters); longer = lettersNext fs key } else rowIn fs (suc i) key) .which ≤ 255
+    go true ih = omega arith
+    go false ih = ih
 
 -- how large a number of n letters can be
 abbrev cap : ℕ → ℕ
 cap zero = 1
-cap (suc n) = 32 * cap n
+cap (suc n) = 28 * cap n
 
 letter-most : (c : ℕ) → letterOf c ≤ 27
 letter-most c = ⊎-elim (λ (t : eqb (letterOf c) 0 ≡ true). omega (arith, eqb-true (letterOf c) 0 t)) (λ (t : eqb (letterOf c) 0 ≡ false). letter-back c (eqb-false (letterOf c) 0 t) .0) (decided (eqb (letterOf c) 0))
@@ -154,7 +251,7 @@ digits-below (suc n) (c ∷ cs) h = omega (arith, digits-below n cs (omega arith
 
 -- a step back along the word
 module _ (word : List ℕ) (i j : ℕ) (e : i ≡ suc j) (h : j < length word) where
-  pub digits-more : digitsOf (drop j word) ≡ 32 * digitsOf (drop i word) + letterOf (getD word j 0)
+  pub digits-more : digitsOf (drop j word) ≡ 28 * digitsOf (drop i word) + letterOf (getD word j 0)
   unfolding digitsOf
   digits-more = rw (drop-cons word j 0 h, e) refl
 
@@ -166,8 +263,8 @@ module _ (word : List ℕ) (i j : ℕ) (e : i ≡ suc j) (h : j < length word) w
   unfolding lettersAll
   broken-here n = rw (drop-cons word j 0 h, eq-eqb _ _ n) refl
 
-  pub digits-fit : length word ≤ 12 → digitsOf (drop j word) < 1152921504606846976
-  digits-fit l = digits-below 12 (drop j word) (simp length-drop (omega arith))
+  pub digits-fit : length word ≤ 13 → digitsOf (drop j word) < 6502111422497947648
+  digits-fit l = digits-below 13 (drop j word) (simp length-drop (omega arith))
 
 broken-before : (word : List ℕ) (j : ℕ) → lettersAll (drop j word) ≡ false → lettersAll word ≡ false
 unfolding lettersAll
@@ -179,15 +276,15 @@ broken-before (c ∷ cs) (suc j) e = go (eqb (letterOf c) 0) (broken-before cs j
     go true u = refl
     go false u = u
 
-pub key-long : (word : List ℕ) → 12 < length word → 0 ≡ keyOf word
+pub key-long : (word : List ℕ) → 13 < length word → 0 ≡ keyOf word
 unfolding keyOf
 key-long word h = rw (lt-ltb _ _ h) refl
 
-pub key-broken : (word : List ℕ) (j : ℕ) → length word ≤ 12 → j < length word → letterOf (getD word j 0) ≡ 0 → 0 ≡ keyOf word
+pub key-broken : (word : List ℕ) (j : ℕ) → length word ≤ 13 → j < length word → letterOf (getD word j 0) ≡ 0 → 0 ≡ keyOf word
 unfolding keyOf
 key-broken word j l h n = rw (le-ltb _ _ l, broken-before word j (broken-here word (suc j) j refl h n)) refl
 
-pub key-whole : (word : List ℕ) (i : ℕ) → i ≡ 0 → length word ≤ 12 → lettersAll (drop i word) ≡ true → digitsOf (drop i word) ≡ keyOf word
+pub key-whole : (word : List ℕ) (i : ℕ) → i ≡ 0 → length word ≤ 13 → lettersAll (drop i word) ≡ true → digitsOf (drop i word) ≡ keyOf word
 unfolding keyOf
 key-whole word i z l a = let b : lettersAll word ≡ true = rw z at a in rw (z, le-ltb _ _ l, b) refl
 
@@ -201,15 +298,47 @@ key-start word i h = rw (drop-all word i h) (refl, refl)
     drop-all (c ∷ cs) zero m = absurd (omega arith)
     drop-all (c ∷ cs) (suc k) m = drop-all cs k (omega arith)
 
--- a key that no row has
-abbrev pub Misses : List Form → ℕ → Type 0 → Type 0
-Misses [] key known = known
-Misses (f ∷ fs) key known = Misses fs key (known × (key ≡ keyOf (f .word) → ⊥))
+-- a key that no row has: of two forms of one word, which stand together, the first says it
+abbrev unseen : Found ℕ → ℕ → Bool
+unseen lost key = true
+unseen (found seen) key = not (eqb seen key)
 
-missed : (fs : List Form) (i key : ℕ) (known : Type 0) → Misses fs key known → known × (rowIn fs i key ≡ record { which = 255; letters = 0 })
+-- one more that it is not, where the row is not the other form of the word before
+abbrev Noted : Bool → Type 0 → Type 0 → Type 0
+Noted true known more = known × more
+Noted false known more = known
+
+-- that it is none of the rows' words, after the word that was seen
+abbrev pub Misses : Found ℕ → List Form → ℕ → Type 0 → Type 0
+Misses seen [] key known = known
+Misses seen (f ∷ fs) key known = Misses (found (keyOf (f .word))) fs key (Noted (unseen seen (keyOf (f .word))) known (key ≡ keyOf (f .word) → ⊥))
+
+-- what is known of the word that was seen
+abbrev NotSeen : Found ℕ → ℕ → Type 0
+NotSeen lost key = Unit {0}
+NotSeen (found seen) key = key ≡ seen → ⊥
+
+missed : (seen : Found ℕ) (fs : List Form) (i key : ℕ) (known : Type 0) → (known → NotSeen seen key) → Misses seen fs key known → known × (rowIn fs i key ≡ record { which = 255; letters = 0; longer = 0 })
 unfolding rowIn
-missed [] i key known m = (m, refl)
-missed (f ∷ fs) i key known m = let r = missed fs (suc i) key (known × (key ≡ keyOf (f .word) → ⊥)) m in (r .0 .0, rw (ne-eqb key (keyOf (f .word)) (r .0 .1)) (r .1))
+missed seen [] i key known n m = (m, refl)
+missed seen (f ∷ fs) i key known n m = go seen (unseen seen (keyOf (f .word))) refl n m (λ known′ un m′. missed (found (keyOf (f .word))) fs (suc i) key known′ un m′)
+  where
+    Goal : Type 0 → Type 0
+    Goal known′ = known′ × ((if eqb key (keyOf (f .word)) then record { which = i; letters = lettersPacked (f .letters); longer = lettersNext fs key } else rowIn fs (suc i) key) ≡ record { which = 255; letters = 0; longer = 0 })
 
-pub row-none : (fs : List Form) (key : ℕ) → Misses fs key (Unit {0}) → record { which = 255; letters = 0 } ≡ rowIn fs 0 key
-row-none fs key m = sym (missed fs 0 key (Unit {0}) m .1)
+    Rest : Type 1
+    Rest = (known′ : Type 0) → (known′ → key ≡ keyOf (f .word) → ⊥) → Misses (found (keyOf (f .word))) fs key known′ → known′ × (rowIn fs (suc i) key ≡ record { which = 255; letters = 0; longer = 0 })
+
+    last : (known′ : Type 0) → (known′ → known) → (known′ → key ≡ keyOf (f .word) → ⊥) → Misses (found (keyOf (f .word))) fs key known′ → Rest → Goal known
+    last known′ back un m′ rest = let r = rest known′ un m′ in (back (r .0), rw (ne-eqb key (keyOf (f .word)) (un (r .0))) (r .1))
+
+    seen-is : (s k : ℕ) → not (eqb s k) ≡ false → s ≡ k
+    seen-is s k e = ⊎-elim (λ (t : eqb s k ≡ true). eqb-true s k t) (λ (t : eqb s k ≡ false). absurd (false≢true (sym e ∙ ap not t))) (decided (eqb s k))
+
+    go : (seen : Found ℕ) (t : Bool) → unseen seen (keyOf (f .word)) ≡ t → (known → NotSeen seen key) → Misses (found (keyOf (f .word))) fs key (Noted t known (key ≡ keyOf (f .word) → ⊥)) → Rest → Goal known
+    go seen true u n m rest = last (known × (key ≡ keyOf (f .word) → ⊥)) (λ k. k .0) (λ k. k .1) m rest
+    go lost false u n m rest = absurd (false≢true (sym u))
+    go (found s) false u n m rest = last known (λ k. k) (λ k e. n k (e ∙ sym (seen-is s (keyOf (f .word)) u))) m rest
+
+pub row-none : (fs : List Form) (key : ℕ) → Misses lost fs key (Unit {0}) → record { which = 255; letters = 0; longer = 0 } ≡ rowIn fs 0 key
+row-none fs key m = sym (missed lost fs 0 key (Unit {0}) (λ k. tt) m .1)

@@ -1,4 +1,5 @@
 pub mod Steps
+pub mod Typed
 pub mod Keys
 pub mod Found
 pub mod Agree

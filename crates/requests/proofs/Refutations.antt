@@ -6,7 +6,7 @@ use Rattle.words.specs.Digits.{valueOf}
 use Rattle.words.specs.Words.{same, digitsFrom, numberOf, allDigits, octetOf, areOctets, pairsOf, octetsOf}
 use Rattle.requests.specs.Kinds.{fieldSays}
 use Rattle.requests.specs.Table.{mostOf, kindOf}
-use Rattle.requests.specs.Rows.{FIND, DIAL, ROWS}
+use Rattle.requests.specs.Rows.{FIND, DIAL, ROWS, VELOCITY-LONG}
 use Rattle.requests.specs.Words.{lettered, wordsOf, wordsSay, asking, nothing, askedBy, askedByTable, askedOf}
 
 -- a sender of 256, which a circuit may be
@@ -59,3 +59,13 @@ space-refuted = refl
 pub nature-asked : askedOf (said "dial 1025 0 0 - 0") ≡ asking DIAL (fieldSays 1025 [] ∷ fieldSays 0 [] ∷ fieldSays 0 [] ∷ fieldSays 0 [] ∷ fieldSays 0 [] ∷ [])
 unfolding askedOf askedByTable askedBy wordsOf lettered same wordsSay kindOf mostOf areOctets octetsOf numberOf digitsFrom valueOf
 nature-asked = refl
+
+-- the second form of a word, which the first does not fit
+pub long-asked : askedOf (said "velocity 12.5 80 3 up") ≡ asking VELOCITY-LONG (fieldSays 0 (said "12.5") ∷ fieldSays 0 (said "80") ∷ fieldSays 0 (said "3") ∷ fieldSays 0 (said "up") ∷ [])
+unfolding askedOf askedByTable askedBy wordsOf lettered same wordsSay kindOf mostOf
+long-asked = refl
+
+-- a word of 19 octets
+pub nineteen-refuted : askedOf (said "velocity 1 0000000000000000000") ≡ nothing
+unfolding askedOf askedByTable askedBy wordsOf lettered same wordsSay kindOf mostOf
+nineteen-refuted = refl

@@ -15,7 +15,7 @@ use Rattle.words.specs.declared.Number.the-variants.{Is, Not}
 use Rattle.words.specs.Words.{same, numberOf, octetOf, areOctets}
 use Rattle.words.proofs.Bounds.{number-most, octet-most}
 use Rattle.words.proofs.Into.{octets-most}
-use Rattle.requests.specs.Kinds.{Kind, aNumber, aLast, anOctet, someOctets, FieldSays, unsaid, Found, found, lost, notBelow, numberSays, meaning, leading, onward, orElse}
+use Rattle.requests.specs.Kinds.{Kind, aNumber, aLast, anOctet, someOctets, aWord, FieldSays, unsaid, Found, found, lost, notBelow, numberSays, meaning, leading, onward, orElse}
 use Rattle.requests.specs.Table.{Form, forms, kindsOf, kindsAt, kindOf, mostOf, letter, octetsMost, circuitMost}
 use Rattle.requests.specs.Words.{wordsOf, wordsSay, Asked, asks, nothing, asking, askedBy, askedByTable, askedOf, octetsAt, Keeps, Kept, SoundRequest}
 
@@ -51,6 +51,8 @@ keeps (aLast most) before word g e =
 keeps anOctet before word g e = let n = as-number (octetOf word) g e in (octet-most (g .value) word (n .0), n .1)
 keeps (someOctets most) before word g e =
     ⊎-elim (λ x. let s = ap (λ (y : FieldSays). length (y .octets)) (found-same (x .1)) in omega (arith, octets-most most word (x .0), s)) (λ x. absurd (found-not (x .1))) (chosen (areOctets most word) e)
+keeps aWord before word g e =
+    ⊎-elim (λ x. absurd (found-not (x .1))) (λ x. let s = ap (λ (y : FieldSays). length (y .octets)) (found-same (x .1)) in omega (arith, ltb-false 18 (length word) (x .0), s)) (chosen (ltb 18 (length word)) e)
 
 -- a first field that was read, and the rest
 abbrev Apart : List Kind → List FieldSays → Found FieldSays → List (List ℕ) → Type 0
@@ -108,9 +110,9 @@ unfolding askedBy
 rows-sound all name ws [] i k = tt
 rows-sound all name ws (f ∷ fs) i k = go (same name (f .word)) (wordsSay (kindsOf f) 0 ws) refl (rows-sound all name ws fs (suc i) (suffix-tail all f fs i k))
   where
-    go : (t : Bool) (x : Found (List FieldSays)) → wordsSay (kindsOf f) 0 ws ≡ x → SoundIn all (askedBy fs (suc i) name ws) → SoundIn all (if t then orElse x (asking i) nothing else askedBy fs (suc i) name ws)
+    go : (t : Bool) (x : Found (List FieldSays)) → wordsSay (kindsOf f) 0 ws ≡ x → SoundIn all (askedBy fs (suc i) name ws) → SoundIn all (if t then orElse x (asking i) (askedBy fs (suc i) name ws) else askedBy fs (suc i) name ws)
     go false x e ih = ih
-    go true lost e ih = tt
+    go true lost e ih = ih
     go true (found l) e ih = rw (suffix-head all f fs i k) (kept (replicate (8 - length l) unsaid) (l ++ replicate (8 - length l) unsaid) (kindsOf f) 0 ws 0 l e refl)
 
 -- every line
@@ -130,16 +132,17 @@ sound line = go (ltb 8192 (length line)) (wordsOf line)
 -- no kind of field has more octets than a field may
 kind-short : (l before : ℕ) (g : FieldSays) → Keeps (kindOf l) before g → length (g .octets) ≤ octetsMost
 unfolding kindOf
-kind-short l before g = go (eqb l (letter "o")) (eqb l (letter "s")) (eqb l (letter "l"))
+kind-short l before g = go (eqb l (letter "o")) (eqb l (letter "s")) (eqb l (letter "w")) (eqb l (letter "l"))
   where
     none : g .octets ≡ [] → length (g .octets) ≤ octetsMost
     none e = omega (arith, ap length e)
 
-    go : (o s t : Bool) → Keeps (if o then anOctet else if s then someOctets octetsMost else if t then aLast circuitMost else aNumber (mostOf l)) before g → length (g .octets) ≤ octetsMost
-    go true s t h = none (h .1)
-    go false true t h = h
-    go false false true h = none (h .2)
-    go false false false h = none (h .1)
+    go : (o s w t : Bool) → Keeps (if o then anOctet else if s then someOctets octetsMost else if w then aWord else if t then aLast circuitMost else aNumber (mostOf l)) before g → length (g .octets) ≤ octetsMost
+    go true s w t h = none (h .1)
+    go false true w t h = h
+    go false false true t h = omega (arith, h)
+    go false false false true h = none (h .2)
+    go false false false false h = none (h .1)
 
 -- no field has more octets than it may
 abbrev ShortAll : List FieldSays → Type 0
@@ -174,9 +177,9 @@ unfolding askedBy
 rows-short name ws [] i = tt
 rows-short name ws (f ∷ fs) i = go (same name (f .word)) (wordsSay (kindsOf f) 0 ws) refl (rows-short name ws fs (suc i))
   where
-    go : (t : Bool) (x : Found (List FieldSays)) → wordsSay (kindsOf f) 0 ws ≡ x → Short (askedBy fs (suc i) name ws) → Short (if t then orElse x (asking i) nothing else askedBy fs (suc i) name ws)
+    go : (t : Bool) (x : Found (List FieldSays)) → wordsSay (kindsOf f) 0 ws ≡ x → Short (askedBy fs (suc i) name ws) → Short (if t then orElse x (asking i) (askedBy fs (suc i) name ws) else askedBy fs (suc i) name ws)
     go false x e ih = ih
-    go true lost e ih = tt
+    go true lost e ih = ih
     go true (found l) e ih = short-said (replicate (8 - length l) unsaid) (short-none (8 - length l)) (f .letters) 0 ws l e
 
 -- of every line

@@ -3,6 +3,7 @@ use Prim.Native.Nat.{ℕ, suc, _+_, _-_}
 use mathlib.Core.List.{List, [], _∷_, _++_, map}
 use lib.Dec.{ltb, leb, eqb}
 use lib.ListN.{length, take, replicate}
+use lib.Seq.{sets}
 use Rattle.octets.specs.Octet.{octets}
 use Rattle.octets.specs.Choice.{if_then_else_}
 use Rattle.words.specs.declared.Number.{Number}
@@ -11,7 +12,7 @@ use Rattle.words.specs.Words.{wordEnd, same, numberOf, octetOf}
 use Rattle.words.specs.Into.{Entry, entry, octetsInto}
 use Rattle.requests.specs.declared.Field.{Field}
 use Rattle.requests.specs.declared.Request.{Request}
-use Rattle.requests.specs.Kinds.{Kind, aNumber, aLast, anOctet, someOctets, notBelow, FieldSays, fieldSays, Found, found, lost, leading, orElse}
+use Rattle.requests.specs.Kinds.{Kind, aNumber, aLast, anOctet, someOctets, aWord, typedMost, notBelow, FieldSays, fieldSays, Found, found, lost, leading, orElse}
 use Rattle.requests.specs.Table.{Form, forms, kindsOf, lineMost, fieldsMost}
 use Rattle.requests.specs.Rows.{BAD}
 use Rattle.requests.specs.Words.{Asked, asks, nothing}
@@ -32,12 +33,21 @@ between line from to = octets line from (to - from)
 abbrev pub wordAt : List ℕ → ℕ → List ℕ
 wordAt line at = between line (at + 1) (wordEnd line (at + 1))
 
+-- a word as it is typed, of up to 18 octets, into a buffer from octet `at` on, where it has room for it
+unfoldable pub wordInto : List ℕ → List ℕ → ℕ → Entry
+wordInto word buffer at =
+    if ltb typedMost (length word) then entry Not buffer
+    else if ltb (length buffer) at then entry Not buffer
+    else if ltb (length buffer - at) (length word) then entry Not buffer
+    else entry (Is (length word)) (sets buffer at word)
+
 -- the number that a word stands for as a field of a kind, or how many octets, which are put into the scratch from `next` on
 abbrev pub entered : Kind → ℕ → List ℕ → List ℕ → ℕ → Entry
 entered (aNumber most) before word scratch next = entry (numberOf most word) scratch
 entered (aLast most) before word scratch next = entry (notBelow before (numberOf most word)) scratch
 entered anOctet before word scratch next = entry (octetOf word) scratch
 entered (someOctets most) before word scratch next = octetsInto most word scratch next
+entered aWord before word scratch next = wordInto word scratch next
 
 -- the field of that number, or of that many octets
 abbrev pub placed : Kind → ℕ → ℕ → Field
@@ -45,6 +55,7 @@ placed (aNumber most) v next = field v next 0
 placed (aLast most) v next = field v next 0
 placed anOctet v next = field v next 0
 placed (someOctets most) v next = field 0 next v
+placed aWord v next = field 0 next v
 
 -- the fields of a line, where its form fits, and the scratch
 pub record Along : Type 0 where
@@ -93,11 +104,16 @@ taken request left = record { request = request; left = left }
 abbrev pub takenBy : ℕ → Along → Asking
 takenBy which a = taken (orElse (a .fit) (request which) bad) (a .left)
 
--- the form, from row `which` on, whose word is the line's first, which ends at `at`: its fields are those of the line
+-- the same; where they do not fit, go on with the scratch as it was left
+abbrev pub tried : ℕ → Found (List Field) → List ℕ → (List ℕ → Asking) → Asking
+tried which (found fs) left rest = taken (request which fs) left
+tried which lost left rest = rest left
+
+-- the first form, from row `which` on, whose word is the line's first, which ends at `at`, and whose fields are those of the line
 unfoldable pub firstForm : List Form → ℕ → List ℕ → ℕ → List ℕ → Asking
 firstForm [] which line at scratch = taken bad scratch
 firstForm (f ∷ fs) which line at scratch =
-    if same (take at line) (f .word) then takenBy which (fieldsOf (kindsOf f) 0 line at scratch 0)
+    if same (take at line) (f .word) then tried which (fieldsOf (kindsOf f) 0 line at scratch 0 .fit) (fieldsOf (kindsOf f) 0 line at scratch 0 .left) (λ left. firstForm fs (suc which) line at left)
     else firstForm fs (suc which) line at scratch
 
 -- what a line asks; one that is too long asks nothing

@@ -12,7 +12,7 @@ use Rattle.requests.specs.Rows.{BAD}
 
 -- the letters of a word with a number, at the most: one more and it does not fit 64 bits
 abbrev pub wordMost : ℕ
-wordMost = 12
+wordMost = 13
 
 -- a to z are 1 to 26, a dash is 27; 0 for any other octet
 unfoldable pub letterOf : ℕ → ℕ
@@ -27,10 +27,10 @@ unfoldable pub lettersAll : List ℕ → Bool
 lettersAll [] = true
 lettersAll (c ∷ cs) = if eqb (letterOf c) 0 then false else lettersAll cs
 
--- 32 for each place, the first letter first
+-- 28 for each place, the first letter first
 unfoldable pub digitsOf : List ℕ → ℕ
 digitsOf [] = 0
-digitsOf (c ∷ cs) = 32 * digitsOf cs + letterOf c
+digitsOf (c ∷ cs) = 28 * digitsOf cs + letterOf c
 
 -- the number that stands for a word, 0 where it has none: no two words have the same
 unfoldable pub keyOf : List ℕ → ℕ
@@ -49,7 +49,12 @@ unfoldable pub kindsIn : ℕ → ℕ → List Kind
 kindsIn zero letters = []
 kindsIn (suc n) letters = if eqb letters 0 then [] else kindOf (letters % 256) ∷ kindsIn n (letters / 256)
 
--- the row of a key, from row `which` on
+-- the letters of the first row, in one number, where its word has that key; else 0
+abbrev pub lettersNext : List Form → ℕ → ℕ
+lettersNext [] key = 0
+lettersNext (f ∷ fs) key = if eqb key (keyOf (f .word)) then lettersPacked (f .letters) else 0
+
+-- the row of a key, from row `which` on, and the letters of the row after it where that is another form of the same word
 unfoldable pub rowIn : List Form → ℕ → ℕ → Row
-rowIn [] which key = record { which = BAD; letters = 0 }
-rowIn (f ∷ fs) which key = if eqb key (keyOf (f .word)) then record { which = which; letters = lettersPacked (f .letters) } else rowIn fs (suc which) key
+rowIn [] which key = record { which = BAD; letters = 0; longer = 0 }
+rowIn (f ∷ fs) which key = if eqb key (keyOf (f .word)) then record { which = which; letters = lettersPacked (f .letters); longer = lettersNext fs key } else rowIn fs (suc which) key

@@ -2,17 +2,23 @@
 use Prim.Native.Nat.{ℕ}
 use mathlib.Core.List.{List, [], _∷_}
 use lib.Dec.{ltb}
+use lib.ListN.{length}
 use Rattle.octets.specs.Choice.{if_then_else_}
 use Rattle.words.specs.declared.Number.{Number}
 use Rattle.words.specs.declared.Number.the-variants.{Is, Not}
 use Rattle.words.specs.Words.{numberOf, octetOf, areOctets, octetsOf}
 
--- a number up to a limit; one that is not below the number before it; one octet, a type or a parameter's name; octets up to a limit
+-- the octets of a word that is kept as it is typed, at the most
+abbrev pub typedMost : ℕ
+typedMost = 18
+
+-- a number up to a limit; one that is not below the number before it; one octet, a type or a parameter's name; octets up to a limit; a word as it is typed
 pub data Kind : Type 0 where
   aNumber : ℕ → Kind
   aLast : ℕ → Kind
   anOctet : Kind
   someOctets : ℕ → Kind
+  aWord : Kind
 
 -- what a field says: a number, 0 where it says octets; and octets, none where it says a number
 pub record FieldSays : Type 0 where
@@ -48,6 +54,7 @@ meaning (aNumber most) before word = numberSays (numberOf most word)
 meaning (aLast most) before word = numberSays (notBelow before (numberOf most word))
 meaning anOctet before word = numberSays (octetOf word)
 meaning (someOctets most) before word = if areOctets most word then found (fieldSays 0 (octetsOf word)) else lost
+meaning aWord before word = if ltb typedMost (length word) then lost else found (fieldSays 0 word)
 
 -- one more at the front of those that were found
 abbrev pub leading : {A : Type 0} → A → Found (List A) → Found (List A)

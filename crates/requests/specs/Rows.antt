@@ -45,6 +45,22 @@ ROWS = 9
 abbrev pub ACT : ℕ
 ACT = 10
 
+-- velocity BEARING SPEED
+abbrev pub VELOCITY : ℕ
+VELOCITY = 11
+
+-- velocity BEARING SPEED VERTICAL MARK
+abbrev pub VELOCITY-LONG : ℕ
+VELOCITY-LONG = 12
+
+-- velocity-back BEARING SPEED
+abbrev pub VELOCITY-BACK : ℕ
+VELOCITY-BACK = 13
+
+-- velocity-back BEARING SPEED VERTICAL MARK
+abbrev pub VELOCITY-BACK-LONG : ℕ
+VELOCITY-BACK-LONG = 14
+
 -- a line that is no request
 abbrev pub BAD : ℕ
 BAD = 255

@@ -6,7 +6,7 @@ use lib.Dec.{eqb}
 use lib.ListN.{getD}
 use Rattle.octets.specs.Choice.{if_then_else_}
 use Rattle.words.specs.Said.{said}
-use Rattle.requests.specs.Kinds.{Kind, aNumber, aLast, anOctet, someOctets}
+use Rattle.requests.specs.Kinds.{Kind, aNumber, aLast, anOctet, someOctets, aWord}
 
 -- the octets of a line, at the most
 abbrev pub lineMost : ℕ
@@ -28,6 +28,10 @@ circuitMost = 4095
 abbrev pub octetMost : ℕ
 octetMost = 255
 
+-- the largest code of a bearing or of a speed
+abbrev pub codeMost : ℕ
+codeMost = 65535
+
 -- the octets of answer buffer that a line may lend, at the most
 abbrev pub roomMost : ℕ
 roomMost = 1024
@@ -40,19 +44,21 @@ octetsMost = 1024
 abbrev pub letter : String → ℕ
 letter text = getD (said text) 0 0
 
--- the limit of a number by its letter: c a circuit, v a sender or a state, r room; any other (n) any number
+-- the limit of a number by its letter: c a circuit, v a sender, a state or a vertical code, h a bearing's or a speed's code, r room; any other (n) any number
 unfoldable pub mostOf : ℕ → ℕ
 mostOf l =
     if eqb l (letter "c") then circuitMost
     else if eqb l (letter "v") then octetMost
+    else if eqb l (letter "h") then codeMost
     else if eqb l (letter "r") then roomMost
     else anyMost
 
--- the kind of a field by its letter: o an octet in two hexadecimal digits, s octets, l the last circuit of a span; any other a number
+-- the kind of a field by its letter: o an octet in two hexadecimal digits, s octets, w a word as it is typed, l the last circuit of a span; any other a number
 unfoldable pub kindOf : ℕ → Kind
 kindOf l =
     if eqb l (letter "o") then anOctet
     else if eqb l (letter "s") then someOctets octetsMost
+    else if eqb l (letter "w") then aWord
     else if eqb l (letter "l") then aLast circuitMost
     else aNumber (mostOf l)
 
@@ -65,7 +71,7 @@ pub record Form : Type 0 where
 abbrev row : String → String → Form
 row word letters = record { word = said word; letters = said letters }
 
--- the rows; those of one family stand together
+-- the rows; those of one family stand together, and so do the two forms of one word, of which a line has the first that fits
 abbrev pub forms : List Form
 forms =
     row "shape" "o"
@@ -79,6 +85,10 @@ forms =
     ∷ row "set" "clv"
     ∷ row "rows" "cl"
     ∷ row "act" "nsr"
+    ∷ row "velocity" "ww"
+    ∷ row "velocity" "wwww"
+    ∷ row "velocity-back" "hh"
+    ∷ row "velocity-back" "hhvw"
     ∷ []
 
 -- the kinds of a form's fields

@@ -6,7 +6,7 @@ use lib.Dec.{ltb, eqb}
 use lib.ListN.{length, getD, replicate}
 use Rattle.octets.specs.Choice.{if_then_else_}
 use Rattle.words.specs.Words.{same}
-use Rattle.requests.specs.Kinds.{Kind, aNumber, aLast, anOctet, someOctets, FieldSays, unsaid, meaning, Found, found, lost, leading, onward, orElse}
+use Rattle.requests.specs.Kinds.{Kind, aNumber, aLast, anOctet, someOctets, aWord, typedMost, FieldSays, unsaid, meaning, Found, found, lost, leading, onward, orElse}
 use Rattle.requests.specs.Table.{Form, forms, kindsOf, kindsAt, lineMost, fieldsMost, octetMost}
 
 -- one octet more at the front of the first word
@@ -35,11 +35,11 @@ pub data Asked : Type 0 where
 abbrev pub asking : ℕ → List FieldSays → Asked
 asking which gs = asks which (gs ++ replicate (fieldsMost - length gs) unsaid)
 
--- the form of that name, from row `which` on, by the words
+-- the first form of that name, from row `which` on, that the words fit
 unfoldable pub askedBy : List Form → ℕ → List ℕ → List (List ℕ) → Asked
 askedBy [] which name words = nothing
 askedBy (f ∷ fs) which name words =
-    if same name (f .word) then orElse (wordsSay (kindsOf f) 0 words) (asking which) nothing
+    if same name (f .word) then orElse (wordsSay (kindsOf f) 0 words) (asking which) (askedBy fs (suc which) name words)
     else askedBy fs (suc which) name words
 
 -- what words ask by the table: the first is the request's name
@@ -69,6 +69,7 @@ Keeps (aNumber most) before g = (g .value ≤ most) × (g .octets ≡ [])
 Keeps (aLast most) before g = (before ≤ g .value) × (g .value ≤ most) × (g .octets ≡ [])
 Keeps anOctet before g = (g .value ≤ octetMost) × (g .octets ≡ [])
 Keeps (someOctets most) before g = length (g .octets) ≤ most
+Keeps aWord before g = length (g .octets) ≤ typedMost
 
 -- what the fields from field i on keep to
 abbrev pub Kept : List Kind → ℕ → List FieldSays → ℕ → Type 0

@@ -4,7 +4,7 @@ ghost use Prim.Native.Nat.{_≤_};
 ghost use Rattle.words.specs.Into.{entry};
 ghost use Rattle.requests.specs.Kinds.{notBelow};
 ghost use Rattle.requests.specs.Table.{mostOf, kindOf, forms};
-ghost use Rattle.requests.specs.Along.{noField, bad, entered, placed, fieldsOf, taken, takenBy, requestOf};
+ghost use Rattle.requests.specs.Along.{field, noField, bad, wordInto, entered, placed, fieldsOf, taken, takenBy, requestOf};
 ghost use Rattle.requests.specs.Inside.{letterOf, keyOf, kindsIn, rowIn};
 use words::Number;
 
@@ -56,6 +56,18 @@ pub const ROWS: usize = 9;
 // act SENDER MESSAGE ROOM
 pub const ACT: usize = 10;
 
+// velocity BEARING SPEED
+pub const VELOCITY: usize = 11;
+
+// velocity BEARING SPEED VERTICAL MARK
+pub const VELOCITY_LONG: usize = 12;
+
+// velocity-back BEARING SPEED
+pub const VELOCITY_BACK: usize = 13;
+
+// velocity-back BEARING SPEED VERTICAL MARK
+pub const VELOCITY_BACK_LONG: usize = 14;
+
 // A line that is no request.
 pub const BAD: usize = 255;
 
@@ -74,19 +86,26 @@ const CIRCUIT_MOST: u32 = 4095;
 // The largest number of one octet.
 const OCTET_MOST: u32 = 255;
 
+// The largest code of a bearing or of a speed.
+const CODE_MOST: u32 = 65535;
+
 // The octets of answer buffer that a line may lend, at the most.
 const ROOM_MOST: u32 = 1024;
 
 // The octets of one field, at the most.
 const OCTETS_MOST: u32 = 1024;
 
-// The letters of a word that has a number, at the most.
-const WORD_MOST: usize = 12;
+// The octets of a word that is kept as it is typed, at the most.
+const TYPED_MOST: usize = 18;
 
-// A row of the table: its number, and a letter for the kind of each field, the first letter in the lowest octet.
+// The letters of a word that has a number, at the most.
+const WORD_MOST: usize = 13;
+
+// A row of the table: its number, and a letter for the kind of each field, the first letter in the lowest octet; and the letters of the word's other form, which is the next row, 0 where it has none.
 struct Row {
     which: usize,
     letters: u64,
+    longer: u64,
 }
 
 // A field that a form does not have.
@@ -120,6 +139,9 @@ fn most(letter: u8) -> u32
     if letter == b'v' {
         return OCTET_MOST;
     }
+    if letter == b'h' {
+        return CODE_MOST;
+    }
     if letter == b'r' {
         return ROOM_MOST;
     }
@@ -141,6 +163,27 @@ fn not_below(least: u32, number: Number) -> Number
     }
 }
 
+// Puts a word into the scratch as it is typed, and answers how many octets it has. It has more than 18, or the scratch has no room: nothing is put.
+fn keep_word(word: &[u8], scratch: &mut [u8], next: usize) -> Number
+    ensures { λ r. ⌜ entry r (now (scratch .exit)) ≡ wordInto (now (word .entry)) (now (scratch .entry)) next ⌝ }
+{
+    if TYPED_MOST < word.len() {
+        return Number::Not;
+    }
+    if scratch.len() < next {
+        return Number::Not;
+    }
+    if scratch.len() - next < word.len() {
+        return Number::Not;
+    }
+    let mut i = 0;
+    while i < word.len() {
+        scratch[next + i] = word[i];
+        i += 1;
+    }
+    Number::Is(word.len() as u32)
+}
+
 // The number that a word stands for as a field of a kind, after a field that stands for `before`; or how many octets, which are put into the scratch.
 fn value_of(letter: u8, before: u32, word: &[u8], scratch: &mut [u8], next: usize) -> Number
     ensures { λ r. ⌜ entry r (now (scratch .exit)) ≡ entered (kindOf letter) before (now (word .entry)) (now (scratch .entry)) next ⌝ }
@@ -151,10 +194,24 @@ fn value_of(letter: u8, before: u32, word: &[u8], scratch: &mut [u8], next: usiz
     if letter == b's' {
         return words::octets_into(word, OCTETS_MOST, scratch, next);
     }
+    if letter == b'w' {
+        return keep_word(word, scratch, next);
+    }
     if letter == b'l' {
         return not_below(before, words::number_of(word, CIRCUIT_MOST));
     }
     words::number_of(word, most(letter))
+}
+
+// The field of so many octets from a place on.
+fn stored(count: u32, from: usize) -> Field
+    ensures { λ r. ⌜ r ≡ field 0 from count ⌝ }
+{
+    Field {
+        value: 0,
+        count,
+        from,
+    }
 }
 
 // The field of a number, or of so many octets from `next` on.
@@ -162,11 +219,10 @@ fn field_of(letter: u8, value: u32, next: usize) -> Field
     ensures { λ r. ⌜ (r ≡ placed (kindOf letter) value next) × (r .count ≤ 4294967295) ⌝ }
 {
     if letter == b's' {
-        return Field {
-            value: 0,
-            count: value,
-            from: next,
-        };
+        return stored(value, next);
+    }
+    if letter == b'w' {
+        return stored(value, next);
     }
     Field {
         value,
@@ -234,7 +290,7 @@ fn letter(c: u8) -> u64
     0
 }
 
-// The number that stands for a word: 32 for each place, the first letter first; 0 where it has none.
+// The number that stands for a word: 28 for each place, the first letter first; 0 where it has none.
 fn key(word: &[u8]) -> u64
     ensures { λ r. ⌜ r ≡ keyOf (now (word .entry)) ⌝ }
 {
@@ -249,7 +305,7 @@ fn key(word: &[u8]) -> u64
         if digit == 0 {
             return 0;
         }
-        key = 32 * key + digit;
+        key = 28 * key + digit;
     }
     key
 }
@@ -260,68 +316,92 @@ fn row_of(key: u64) -> Row
 {
     match key {
         // shape o
-        5768467 => Row {
+        3425539 => Row {
             which: SHAPE,
             letters: 0x6f,
+            longer: 0,
         },
         // read s
-        132274 => Row {
+        88750 => Row {
             which: READ,
             letters: 0x73,
+            longer: 0,
         },
         // write nossssr
-        5908055 => Row {
+        3519903 => Row {
             which: WRITE,
             letters: 0x72737373736f6e,
+            longer: 0,
         },
         // compact sr
-        21577086435 => Row {
+        9690413687 => Row {
             which: COMPACT,
             letters: 0x7273,
+            longer: 0,
         },
         // find oss
-        145702 => Row {
+        99042 => Row {
             which: FIND,
             letters: 0x73736f,
+            longer: 0,
         },
         // number sr
-        609302190 => Row {
+        312914602 => Row {
             which: NUMBER,
             letters: 0x7273,
+            longer: 0,
         },
         // dial nnnsr
-        394532 => Row {
+        264464 => Row {
             which: DIAL,
             letters: 0x72736e6e6e,
+            longer: 0,
         },
         // own clv
-        15087 => Row {
+        11635 => Row {
             which: OWN,
             letters: 0x766c63,
+            longer: 0,
         },
         // set clv
-        20659 => Row {
+        15839 => Row {
             which: SET,
             letters: 0x766c63,
+            longer: 0,
         },
         // rows cl
-        646642 => Row {
+        435558 => Row {
             which: ROWS,
             letters: 0x6c63,
+            longer: 0,
         },
         // act nsr
-        20577 => Row {
+        15765 => Row {
             which: ACT,
             letters: 0x72736e,
+            longer: 0,
+        },
+        // velocity ww wwww
+        347118095010 => Row {
+            which: VELOCITY,
+            letters: 0x7777,
+            longer: 0x77777777,
+        },
+        // velocity-back hh hhvw
+        2579609345834404514 => Row {
+            which: VELOCITY_BACK,
+            letters: 0x6868,
+            longer: 0x77766868,
         },
         _ => Row {
             which: BAD,
             letters: 0,
+            longer: 0,
         },
     }
 }
 
-// What a line asks. A line that is over 8192 octets long, or that no form fits, asks nothing; so does one whose octets the scratch has no room for, which 4096 octets always have.
+// What a line asks. A line that is over 8192 octets long, or that no form fits, asks nothing; so does one whose octets the scratch has no room for, which 4168 octets always have.
 pub fn request_of(line: &[u8], scratch: &mut [u8]) -> Request
     ensures { λ r. ⌜ taken r (now (scratch .exit)) ≡ requestOf (now (line .entry)) (now (scratch .entry)) ⌝ }
 {
@@ -333,5 +413,18 @@ pub fn request_of(line: &[u8], scratch: &mut [u8]) -> Request
     if row.which == BAD {
         return none();
     }
-    fields(row, line, end, scratch)
+    let longer = row.longer;
+    if longer == 0 {
+        return fields(row, line, end, scratch);
+    }
+    let other = Row {
+        which: row.which + 1,
+        letters: longer,
+        longer: 0,
+    };
+    let request = fields(row, line, end, scratch);
+    if request.which == BAD {
+        return fields(other, line, end, scratch);
+    }
+    request
 }

@@ -1,11 +1,16 @@
 -- Any two answers that a public function's contract allows are equal.
-use Prim.Native.Nat.{ℕ}
+use Prim.Native.Nat.{ℕ, _≤_}
 use mathlib.Core.Path.{_≡_, ap}
 use mathlib.Core.List.{List}
 use Rattle.octets.proofs.Answer.{one-answer}
 use Rattle.words.specs.declared.Number.{Number}
+use Rattle.words.specs.Digits.{valueOf}
 use Rattle.words.specs.Words.{wordEnd, numberOf, octetOf}
 use Rattle.words.specs.Into.{Entry, entry, octetsInto}
+
+-- what a digit stands for
+pub value-determined : (digit r s : ℕ) → (r ≡ valueOf digit) × (r ≤ 16) → (s ≡ valueOf digit) × (s ≤ 16) → r ≡ s
+value-determined digit r s p q = one-answer (p .0) (q .0)
 
 -- where a word ends
 pub word-end-determined : (line : List ℕ) (from r s : ℕ) → r ≡ wordEnd line from → s ≡ wordEnd line from → r ≡ s

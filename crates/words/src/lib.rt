@@ -12,7 +12,7 @@ pub enum Number {
 }
 
 // What a hexadecimal digit of either case stands for; 16 for an octet that is no digit.
-fn value(digit: u8) -> u8
+pub fn value(digit: u8) -> u8
     ensures { λ r. ⌜ (r ≡ valueOf digit) × (r ≤ 16) ⌝ }
 {
     if digit < b'0' {

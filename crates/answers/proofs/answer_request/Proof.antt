@@ -6,7 +6,7 @@ use Rattle.printing.specs.Sheet.{sheet}
 use Rattle.requests.specs.Along.{saidIn}
 use Rattle.table_lines.specs.Tables.{Turn, leftBy}
 use Rattle.table_lines.proofs.Leaving.{left-same}
-use Rattle.answers.proofs.Turned.{turn-codec, turn-numbers, turn-tables, turn-hub, turn-none, table-any}
+use Rattle.answers.proofs.Turned.{turn-codec, turn-numbers, turn-tables, turn-hub, turn-velocities, turn-none, table-any}
 use borrow.Author.Needs.{needs}
 use Rattle.answers.proofs.answer_request.Statement.{statement}
 use Rattle.answers.proofs.answer_request.Tie as tie
@@ -69,19 +69,30 @@ returns-4 c =
     let a = c .before .before .before .before .before .before .before .before .before .before .before .before .before .before .before .before .before .before .before .before .args in
     c .before .before .before .before .act-turn .ensures ∙ ap (λ (x : Turn). leftBy x (sheet (now (a .out)) 0)) (turn-hub (tables (now (a .states)) (now (a .owners))) (a .request .which) (saidIn (now (a .octets)) (a .request .fields)) (c .before .before .before .before .before .before .before .before .if4 .taken))
 
-slice-aggregate-put-text : tie.Need-slice-aggregate-put-text
-slice-aggregate-put-text c = search needs
-
-put-text-requires : tie.Need-put-text-requires
-put-text-requires c κs = search needs
+velocities-line-requires : tie.Need-velocities-line-requires
+velocities-line-requires c κs = search needs
 
 same-length-9 : tie.Need-same-length-9
 same-length-9 c = search needs
 
 returns-5 : tie.Need-returns-5
 returns-5 c =
-    let a = c .before .before .before .before .before .before .before .before .before .before .before .before .before .before .before .before .before .args in
-    left-same refl (c .before .before .put-text .ensures) ∙ ap (λ (x : Turn). leftBy x (sheet (now (a .out)) 0)) (turn-none (tables (now (a .states)) (now (a .owners))) (a .request .which) (saidIn (now (a .octets)) (a .request .fields)) (c .before .before .before .before .before .before .before .if3 .left) (c .before .before .before .before .before .if4 .left))
+    let a = c .before .before .before .before .before .before .before .before .before .before .before .before .before .before .before .before .before .before .args in
+    left-same refl (c .before .before .velocities-line .ensures) ∙ ap (λ (x : Turn). leftBy x (sheet (now (a .out)) 0)) (turn-velocities (tables (now (a .states)) (now (a .owners))) (a .request .which) (saidIn (now (a .octets)) (a .request .fields)) (c .before .before .before .before .before .before .before .before .if3 .left) (c .before .before .before .before .before .before .if4 .left) (c .before .before .before .before .if5 .taken))
+
+slice-aggregate-put-text : tie.Need-slice-aggregate-put-text
+slice-aggregate-put-text c = search needs
+
+put-text-requires : tie.Need-put-text-requires
+put-text-requires c κs = search needs
+
+same-length-10 : tie.Need-same-length-10
+same-length-10 c = search needs
+
+returns-6 : tie.Need-returns-6
+returns-6 c =
+    let a = c .before .before .before .before .before .before .before .before .before .before .before .before .before .before .before .before .before .before .before .args in
+    left-same refl (c .before .before .put-text .ensures) ∙ ap (λ (x : Turn). leftBy x (sheet (now (a .out)) 0)) (turn-none (tables (now (a .states)) (now (a .owners))) (a .request .which) (saidIn (now (a .octets)) (a .request .fields)) (c .before .before .before .before .before .before .before .if4 .left) (c .before .before .before .before .before .if5 .left))
 
 pub answer-request-spec : {M : Type 1} → statement M
 answer-request-spec =
@@ -103,7 +114,10 @@ answer-request-spec =
     same-length-7
     same-length-8
     returns-4
+    velocities-line-requires
+    same-length-9
+    returns-5
     slice-aggregate-put-text
     put-text-requires
-    same-length-9
-    returns-5)
+    same-length-10
+    returns-6)

@@ -2,31 +2,42 @@ use Prim.Native.Nat.{ℕ}
 use mathlib.Core.Path.{_≡_, refl}
 use mathlib.Core.Bool.{Bool, true, false}
 use native.Mathlib.Omega.{arith}
+use borrow.Author.Needs.{needs}
 use borrow.Author.Tests.{ne-eqb}
 use lib.Dec.{eqb}
 use Rattle.octets.specs.Choice.{if_then_else_}
-use Rattle.requests.specs.Kinds.{aNumber, aLast, anOctet, someOctets}
+use Rattle.requests.specs.Kinds.{aNumber, aLast, anOctet, someOctets, aWord}
 use Rattle.requests.specs.Table.{mostOf, kindOf, circuitMost, octetsMost}
 use Rattle.requests.specs.Along.{field, placed}
 use Rattle.requests.proofs.field_of.Statement.{statement}
 use Rattle.requests.proofs.field_of.Tie as tie
 
--- each kind but octets is a number
-placed-number : (l v next : ℕ) → (l ≡ 115 → ⊥) → field v next 0 ≡ placed (kindOf l) v next
+-- each kind but octets and a typed word is a number
+placed-number : (l v next : ℕ) → (l ≡ 115 → ⊥) → (l ≡ 119 → ⊥) → field v next 0 ≡ placed (kindOf l) v next
 unfolding kindOf
-placed-number l v next h = rw (ne-eqb l 115 h) (go (eqb l 111) (eqb l 108))
+placed-number l v next h k = rw (ne-eqb l 115 h, ne-eqb l 119 k) (go (eqb l 111) (eqb l 108))
   where
-    go : (s t : Bool) → field v next 0 ≡ placed (if s then anOctet else if false then someOctets octetsMost else if t then aLast circuitMost else aNumber (mostOf l)) v next
+    go : (s t : Bool) → field v next 0 ≡ placed (if s then anOctet else if false then someOctets octetsMost else if false then aWord else if t then aLast circuitMost else aNumber (mostOf l)) v next
     go true t = refl
     go false true = refl
     go false false = refl
 
+stored-requires : tie.Need-stored-requires
+stored-requires c κs = search needs
+
 returns : tie.Need-returns
 unfolding kindOf
-returns c = (rw (c .if1 .taken) refl, omega arith)
+returns c = rw (c .before .if1 .taken, c .stored .ensures) (refl, omega arith)
+
+stored-requires-2 : tie.Need-stored-requires-2
+stored-requires-2 c κs = search needs
 
 returns-2 : tie.Need-returns-2
-returns-2 c = (placed-number _ _ _ (c .if1 .left), omega arith)
+unfolding kindOf
+returns-2 c = rw (c .before .if2 .taken, c .stored2 .ensures) (refl, omega arith)
+
+returns-3 : tie.Need-returns-3
+returns-3 c = (placed-number _ _ _ (c .before .if1 .left) (c .if2 .left), omega arith)
 
 pub field-of-spec : {M : Type 1} → statement M
-field-of-spec = tie.close (tie.spec returns returns-2)
+field-of-spec = tie.close (tie.spec stored-requires returns stored-requires-2 returns-2 returns-3)

@@ -11,7 +11,7 @@ use Rattle.requests.proofs.key.Statement.{statement}
 use Rattle.requests.proofs.key.Tie as tie
 
 abbrev Inv-loop : tie.InvT-loop
-Inv-loop word key₀ i₀ key i = (i ≤ length word) × (length word ≤ 12) × (key ≡ digitsOf (drop i word)) × (lettersAll (drop i word) ≡ true)
+Inv-loop word key₀ i₀ key i = (i ≤ length word) × (length word ≤ 13) × (key ≡ digitsOf (drop i word)) × (lettersAll (drop i word) ≡ true)
 
 abbrev μ-loop : tie.MeasureT-loop
 μ-loop word key₀ i₀ key i = i

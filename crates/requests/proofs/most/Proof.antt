@@ -19,5 +19,9 @@ returns-4 : tie.Need-returns-4
 unfolding mostOf
 returns-4 c = search tests
 
+returns-5 : tie.Need-returns-5
+unfolding mostOf
+returns-5 c = search tests
+
 pub most-spec : {M : Type 1} → statement M
-most-spec = tie.close (tie.spec returns returns-2 returns-3 returns-4)
+most-spec = tie.close (tie.spec returns returns-2 returns-3 returns-4 returns-5)

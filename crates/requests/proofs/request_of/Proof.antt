@@ -5,7 +5,7 @@ use lib.Seq.{length-take-le}
 use Rattle.words.proofs.Bounds.{word-within}
 use Rattle.requests.specs.declared.Request.{Request}
 use Rattle.requests.specs.Along.{taken}
-use Rattle.requests.proofs.Found.{asked-nothing, found-none, found-row}
+use Rattle.requests.proofs.Found.{asked-nothing, row-most, found-none, found-row, found-first, found-longer}
 use borrow.Author.Needs.{needs}
 use Rattle.requests.proofs.request_of.Statement.{statement}
 use Rattle.requests.proofs.request_of.Tie as tie
@@ -48,8 +48,33 @@ same-length c = search needs
 
 returns-3 : tie.Need-returns-3
 returns-3 c =
-    let a = c .before .before .before .before .before .before .before .before .before .before .before .before .before .args in
-    c .before .before .fields .ensures ∙ found-row (now (a .line)) (now (a .scratch)) _ _ _ (c .before .before .before .before .before .before .before .before .before .before .if1 .left) (c .before .before .before .before .before .before .before .before .before .word-end .ensures) (c .before .before .before .before .before .before .before .key .ensures) (c .before .before .before .before .before .before .row-of .ensures) (c .before .before .before .before .if2 .left)
+    let a = c .before .before .before .before .before .before .before .before .before .before .before .before .before .before .args in
+    c .before .before .fields .ensures ∙ found-row (now (a .line)) (now (a .scratch)) _ _ _ (c .before .before .before .before .before .before .before .before .before .before .before .if1 .left) (c .before .before .before .before .before .before .before .before .before .before .word-end .ensures) (c .before .before .before .before .before .before .before .before .key .ensures) (c .before .before .before .before .before .before .before .row-of .ensures) (c .before .before .before .before .before .if2 .left) (c .before .before .before .before .if3 .taken)
+
+add-t8 : tie.Need-add-t8
+add-t8 c = omega (arith, row-most _ _ (c .before .before .before .before .row-of .ensures))
+
+fields-requires-2 : tie.Need-fields-requires-2
+fields-requires-2 c κs = search needs
+
+fields-requires-3 : tie.Need-fields-requires-3
+fields-requires-3 c κs = search needs
+
+same-length-2 : tie.Need-same-length-2
+same-length-2 c = search needs
+
+returns-4 : tie.Need-returns-4
+returns-4 c =
+    let a = c .before .before .before .before .before .before .before .before .before .before .before .before .before .before .before .before .before .before .before .before .before .args in
+    c .before .before .fields3 .ensures ∙ found-longer (now (a .line)) (now (a .scratch)) _ _ _ (c .before .before .before .before .before .before .before .before .before .before .before .before .before .before .before .before .before .before .if1 .left) (c .before .before .before .before .before .before .before .before .before .before .before .before .before .before .before .before .before .word-end .ensures) (c .before .before .before .before .before .before .before .before .before .before .before .before .before .before .before .key .ensures) (c .before .before .before .before .before .before .before .before .before .before .before .before .before .before .row-of .ensures) (c .before .before .before .before .before .before .before .before .before .before .before .before .if2 .left) _ _ (c .before .before .before .before .before .before .before .before .fields2 .ensures) (c .before .before .before .before .before .before .before .before .before .before .before .if3 .left) (c .before .before .before .before .if4 .taken)
+
+same-length-3 : tie.Need-same-length-3
+same-length-3 c = search needs
+
+returns-5 : tie.Need-returns-5
+returns-5 c =
+    let a = c .before .before .before .before .before .before .before .before .before .before .before .before .before .before .before .before .before .args in
+    found-first (now (a .line)) (now (a .scratch)) _ _ _ (c .before .before .before .before .before .before .before .before .before .before .before .before .before .before .if1 .left) (c .before .before .before .before .before .before .before .before .before .before .before .before .before .word-end .ensures) (c .before .before .before .before .before .before .before .before .before .before .before .key .ensures) (c .before .before .before .before .before .before .before .before .before .before .row-of .ensures) (c .before .before .before .before .before .before .before .before .if2 .left) _ _ (c .before .before .before .before .fields2 .ensures) (c .if4 .left)
 
 pub request-of-spec : {M : Type 1} → statement M
 request-of-spec =
@@ -65,4 +90,11 @@ request-of-spec =
     returns-2
     fields-requires
     same-length
-    returns-3)
+    returns-3
+    add-t8
+    fields-requires-2
+    fields-requires-3
+    same-length-2
+    returns-4
+    same-length-3
+    returns-5)

@@ -50,8 +50,16 @@ unfolding rowIn keyOf digitsOf lettersAll letterOf
 returns-11 c = rw (c .match .keys11)
 
 returns-12 : tie.Need-returns-12
+unfolding rowIn keyOf digitsOf lettersAll letterOf
+returns-12 c = rw (c .match .keys12)
+
+returns-13 : tie.Need-returns-13
+unfolding rowIn keyOf digitsOf lettersAll letterOf
+returns-13 c = rw (c .match .keys13)
+
+returns-14 : tie.Need-returns-14
 unfolding keyOf digitsOf lettersAll letterOf
-returns-12 c = row-none forms _ (c .match .rest)
+returns-14 c = row-none forms _ (c .match .rest)
 
 pub row-of-spec : {M : Type 1} → statement M
 row-of-spec =
@@ -68,4 +76,6 @@ row-of-spec =
     returns-9
     returns-10
     returns-11
-    returns-12)
+    returns-12
+    returns-13
+    returns-14)

@@ -1,0 +1,4 @@
+pub mod Velocity
+pub mod Told
+pub mod Rules
+pub mod Faults
