@@ -68,7 +68,7 @@ static int message(const char *name)
         memcpy(m, cgb, sizeof cgb);
         length = sizeof cgb;
         for (unsigned i = 0; i < 32; i++)
-            put(91 * i + 0x35);
+            put(1u << i % 8);
     } else if (strcmp(name, "cqm") == 0) {
         static const uint8_t cqm[] = {0x00, 0x00, 0x2A, 0x01, 0x01, 0x1F};
         memcpy(m, cqm, sizeof cqm);

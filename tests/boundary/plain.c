@@ -409,6 +409,15 @@ static uint8_t circuit_state(unsigned state)
     return (uint8_t)((state & BUSY ? 0x04 : 0x0C) + (state & MAINTENANCE ? 0x02 : 0) + (state & HARDWARE ? 0x20 : 0));
 }
 
+/* How many of the bits 0 to range are 1; those beyond are spare. */
+static unsigned marks(const uint8_t *status, unsigned range)
+{
+    unsigned count = (unsigned)__builtin_popcount(status[range / 8] & (255u >> (7 - range % 8)));
+    for (unsigned j = 0; j < range / 8; j++)
+        count += (unsigned)__builtin_popcount(status[j]);
+    return count;
+}
+
 /* 16, the reader's, 17, 14, 18, 19, 20, 21, 13. */
 uint32_t plain_act(uint8_t *states, size_t states_length, const uint8_t *owners, size_t owners_length, uint32_t sender,
                    const uint8_t *message, size_t length, uint8_t *answer, size_t room)
@@ -453,6 +462,8 @@ uint32_t plain_act(uint8_t *states, size_t states_length, const uint8_t *owners,
         if (kind > 1 || size < 1 || contents[0] < 1 || size != 1 + contents[0] / 8u + 1)
             return refusal(14);
         range = contents[0];
+        if (marks(contents + 1, range) > 32)
+            return refusal(14);
         need = 7 + range / 8 + 1;
         break;
     default:

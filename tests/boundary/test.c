@@ -849,6 +849,8 @@ static void act_cases(void)
     acts("01 00 12", 6, "01 00 10 00", 1, 0);
     acts("01 00 01 00 60 01 0A 00 02 00 04 03 10 21 43", 0, "", 1, 1);
     acts("01 00 01 00 60 01 0A 00 02 00 00", 0, "", 1, 1);
+    acts("00 00 18 00 01 06 27 ff ff ff ff 00", 0, "00 00 1a 00 01 06 27 ff ff ff ff 00", 31, 2);
+    acts("00 00 18 00 01 06 20 fe ff ff ff ff", 0, "00 00 1a 00 01 06 20 fe ff ff ff 01", 32, 2);
     acts("08 00 18 00 01 03 09 01 02", 0, "08 00 1a 00 01 03 09 01 02", 8, 2);
     acts("08 00 18 00 01 03 09 01 02", 0, "08 00 1a 00 01 03 09 01 02", 17, 2);
     acts("08 00 18 00 01 03 09 01 02", 1, "08 00 1a 00 01 03 09 01 02", 9, 1);
@@ -856,8 +858,9 @@ static void act_cases(void)
     acts("08 00 18 01 01 03 09 01 02", 3, "08 00 1a 01 01 03 09 01 02", 8, 6);
     acts("08 00 19 00 01 03 09 01 02", 6, "08 00 1b 00 01 03 09 01 02", 17, 4);
     acts("08 00 19 01 01 03 09 01 02", 6, "08 00 1b 01 01 03 09 01 02", 17, 2);
-    acts("00 00 18 01 01 21 ff ff*32", 3, "00 00 1a 01 01 21 ff ff*32", 255, 6);
-    acts("00 0f 19 00 01 21 ff ff*32", 2, "00 0f 1b 00 01 21 ff ff*32", 4095, 0);
+    act_refused("00 00 18 01 01 21 ff ff*32", 7, 14);
+    acts("00 00 18 01 01 21 ff 80*32", 3, "00 00 1a 01 01 21 ff 80*32", 255, 6);
+    acts("00 0f 19 00 01 21 ff 80*32", 2, "00 0f 1b 00 01 21 ff 80*32", 4095, 0);
 
     table(7, 0, 4096, 7, 0);
     act_refused("01 00 10 00", 7, 17);
@@ -879,6 +882,10 @@ static void act_cases(void)
     act_refused("08 00 18 00 01 02 09 01", 7, 14);
     act_refused("08 00 19 00 01 04 09 01 02 03", 7, 14);
     act_refused("ff 0f 19 00 01 04 09 01 02 03", 0, 14);
+    act_refused("00 00 18 00 01 06 27 ff ff ff ff 01", 7, 14);
+    act_refused("00 00 19 01 01 06 27 ff ff ff ff 80", 7, 14);
+    act_refused("f0 0f 18 00 01 06 27 ff ff ff ff 01", 7, 14);
+    act_refused("f0 0f 18 00 01 06 27 ff ff ff ff 00", 7, 18);
     act_refused("FF 0F 17 01 01 01", 7, 18);
     act_refused("FF 0F 17 01 01 01", 0, 18);
     act_refused("E1 0F 17 01 01 1F", 7, 18);
@@ -984,6 +991,9 @@ static void some_parts(struct given *w)
             w->first[0] = (uint8_t)range;
             w->first_length = 1 + range / 8 + 1;
             noise(w->first + 1, w->first_length + 1);
+            if (!one_in(6)) /* mostly 32 marks or fewer */
+                for (unsigned j = 1; j < w->first_length; j++)
+                    w->first[j] &= (uint8_t)(chance() & chance());
             if (one_in(20))
                 w->first_length = w->first_length - 1 + below(3);
         } else if (w->type == 0x01) {

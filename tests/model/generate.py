@@ -582,14 +582,21 @@ class Generator:
     def status(self, r):
         count = r // 8 + 1
         way = self.rng.random()
-        if way < 0.5:
+        if way < 0.15:
             return self.octets(count)
-        if way < 0.6:
+        if way < 0.2:
             return bytes(count)
-        if way < 0.7:
+        if way < 0.25:
             return b"\xff" * count
-        marked = bytearray(count)           # the ends of the group, and the first spare bit
-        for n in self.pick([[0], [r], [0, r], [r + 1], [r - 1], [7, 8], [15, 16]]):
+        if way < 0.65:                      # so many marks among bits 0 to r, 32 at the most or just over, and any spare bits
+            marks = min(r + 1, self.pick([0, 1, 2, 3, 8, 16, 31, 32, 32, 32, 33, 33, 34, self.between(0, 40)]))
+            places = self.shuffled(list(range(r + 1)))[:marks]
+            if self.chance(0.5):
+                places += range(r + 1, 8 * count)
+        else:                               # the ends of the group, and the first spare bit
+            places = self.pick([[0], [r], [0, r], [r + 1], [r - 1], [7, 8], [15, 16]])
+        marked = bytearray(count)
+        for n in places:
             if n // 8 < count:
                 marked[n // 8] |= 1 << n % 8
         return bytes(marked)
@@ -1016,6 +1023,21 @@ class Generator:
             message = self.lay(self.pick([CGB, CGU]), 1000, b"\0", [bytes([r]) + b"\xff" * count], None)
             scene.append(b"act 9 %s 99" % message.hex().encode())
         made.append(scene + [b"act 9 e803180001 99", b"act 9 e80318000100 99", b"rows 1000 1256"])
+
+        # 31, 32 and 33 marks, at the front, at the end, spread over the octets, with spare bits and without; 18 comes after 14.
+        scene = [b"own 1000 1300 9", b"set 1000 1300 0", b"own 4000 4095 9"]
+        for marks in (31, 32, 33):
+            for r, places in ((39, range(marks)), (39, range(40 - marks, 40)), (255, range(0, 8 * marks, 8) if marks < 33 else range(0, 7 * marks, 7)),
+                              (33, range(marks)), (33, list(range(marks)) + list(range(34, 40)))):
+                status = bytearray(r // 8 + 1)
+                for n in places:
+                    status[n // 8] |= 1 << n % 8
+                for kind in (CGB, CGU):
+                    message = self.lay(kind, 1000, b"\0", [bytes([r]) + bytes(status)], None)
+                    scene.append(b"act 9 %s 99" % message.hex().encode())
+            message = self.lay(CGB, 4090, b"\0", [bytes([39]) + (2 ** marks - 1).to_bytes(5, "little")], None)
+            scene.append(b"act 9 %s 99" % message.hex().encode())
+        made.append(scene + [b"rows 1000 1256"])
 
         # Groups that reach outside the sender's span, at the first, a middle and the last circuit, marked or not.
         for spot in (1499, 1500, 1504, 1508, 1509):

@@ -351,6 +351,9 @@ def ask(message):
         r, status = contents[0], contents[1:]
         # Status bit n, low bit first, stands for circuit m+n; bits past r are spare.
         marks = tuple(status[n // 8] >> (n % 8) & 1 == 1 for n in range(r + 1))
+        # At most 32 of them are marked; spare bits do not count.
+        if sum(marks) > 32:
+            return 14
         clean = bytearray(r // 8 + 1)
         for n in range(r + 1):
             if marks[n]:

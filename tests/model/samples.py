@@ -105,6 +105,15 @@ SAMPLES = [
     ("dial 3 1 0 010203 4", "octets 83102103"),
     ("dial 3 1 0 01020304 4", "octets 03102143"),
 
+    # CGB with 32 marks is taken and 33 are 14, also where the group passes 4095; bits past the range are spare and do not count.
+    ("act 1 000018000106" + "27" + "ffffffff00" + " 12", "answer 00001a000106" + "27" + "ffffffff00"),
+    ("act 1 000018000106" + "27" + "ffffffff01" + " 12", "refused 14"),
+    ("act 1 000019000106" + "27" + "ffffffff01" + " 12", "refused 14"),
+    ("act 1 F00F18000106" + "27" + "ffffffff01" + " 12", "refused 14"),
+    ("act 1 F00F18000106" + "27" + "ffffffff00" + " 12", "refused 18"),
+    ("act 1 000019000106" + "20" + "fffffffffe" + " 12", "answer 00001b000106" + "20" + "ffffffff00"),
+    ("set 0 4095 0", "ok"),
+
     # CQM: circuits 5 to 8, idle, busy, blocked for maintenance and for both; CQR with the range, then a state for each.
     ("set 6 6 1", "ok"),
     ("set 7 7 2", "ok"),

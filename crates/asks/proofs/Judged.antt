@@ -25,7 +25,8 @@ use Rattle.rows.specs.declared.Act.the-variants.{Seize, Release, Reset, Block, 
 use Rattle.asks.specs.declared.Ask.{Ask}
 use Rattle.isup.specs.Types.{IAM, REL, RSC, BLO, UBL, GRS, CGB, CGU, CQM}
 use Rattle.asks.specs.Types.{acting, typeOf, actFor}
-use Rattle.asks.specs.Asks.{rangeIn, blockKind, brokenRange, brokenGroup, broken, indicatorIn, askIn, IsAsked, askedFor, askedIn, askOf}
+use Rattle.asks.specs.Asks.{rangeIn, blockKind, groupStatus, brokenRange, brokenGroup, broken, indicatorIn, askIn, IsAsked, askedFor, askedIn, askOf}
+use Rattle.marks.specs.Marks.{marksIn}
 use Rattle.asks.specs.Faults.{Reads, NotActedOn, KeepsRange, KeepsGroup, BreaksRule, rangeGiven, GroupPasses, askFaults}
 use Rattle.asks.proofs.Types.{for-type, type-is, no-act, one-acting, acting-act}
 use Rattle.asks.proofs.Reading.{range-rule, whole-group}
@@ -42,7 +43,7 @@ range-broken least m x e k =
 group-kept : (m : List ℕ) (x : Message) → brokenGroup m (indicatorIn m x) (x .parts .first) ≡ false → KeepsGroup m x
 group-kept m x e =
     let w = whole-group m (indicatorIn m x) (x .parts .first) e in
-    record { kinds = w .kinds; least = positive (rangeIn m (x .parts .first)) (w .range); exact = w .exact }
+    record { kinds = w .kinds; least = positive (rangeIn m (x .parts .first)) (w .range); exact = w .exact; few = w .few }
   where
     positive : (r : ℕ) → (r ≡ 0 → ⊥) → 1 ≤ r
     positive r n = ⊎-elim (λ t. ltb-true 0 r t) (λ t. absurd (n (omega (arith, ltb-false 0 r t)))) (decided (ltb 0 r))
@@ -50,7 +51,7 @@ group-kept m x e =
 group-broken : (m : List ℕ) (x : Message) → brokenGroup m (indicatorIn m x) (x .parts .first) ≡ true → KeepsGroup m x → ⊥
 unfolding brokenGroup
 group-broken m x e k =
-    true-false e (rw (le-ltb 1 (blockKind (indicatorIn m x)) (k .kinds), ne-eqb (spanSize (x .parts .first)) 0 (λ z. omega (arith, k .exact)), ne-eqb (rangeIn m (x .parts .first)) 0 (λ z. omega (arith, k .least)), eq-eqb _ _ (k .exact)))
+    true-false e (rw (le-ltb 1 (blockKind (indicatorIn m x)) (k .kinds), ne-eqb (spanSize (x .parts .first)) 0 (λ z. omega (arith, k .exact)), ne-eqb (rangeIn m (x .parts .first)) 0 (λ z. omega (arith, k .least)), eq-eqb _ _ (k .exact), le-ltb 32 (marksIn (rangeIn m (x .parts .first)) (groupStatus m (x .parts .first))) (k .few)))
 
 -- by the act
 module _ (m : List ℕ) (x : Message) where

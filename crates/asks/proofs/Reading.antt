@@ -27,8 +27,9 @@ use Rattle.rows.specs.declared.Act.{Act}
 use Rattle.rows.specs.declared.Act.the-variants.{Seize, Release, Reset, Block, Unblock, ResetGroup, BlockGroup, UnblockGroup, Query}
 use Rattle.asks.specs.declared.Ask.{Ask}
 use Rattle.isup.specs.Types.{CGB, CGU}
+use Rattle.marks.specs.Marks.{marksIn}
 use Rattle.asks.specs.Types.{typeOf, actFor}
-use Rattle.asks.specs.Asks.{rangeIn, blockKind, width, brokenRange, brokenGroup, broken, oneAsk, rangeAsk, groupAsk, indicatorIn, askIn, reaching, askedFor, askedIn, askOf, Sound}
+use Rattle.asks.specs.Asks.{rangeIn, blockKind, width, groupStatus, brokenRange, brokenGroup, broken, oneAsk, rangeAsk, groupAsk, indicatorIn, askIn, reaching, askedFor, askedIn, askOf, Sound}
 use Rattle.asks.specs.Inside.{looked, Placed}
 use Rattle.asks.proofs.Types.{for-type}
 
@@ -104,14 +105,11 @@ pub record WholeGroup (m : List ℕ) (indicator : ℕ) (contents : Span) : Type 
   pub kinds : blockKind indicator ≤ 1
   pub range : rangeIn m contents ≡ 0 → ⊥
   pub exact : spanSize contents ≡ 1 + width (rangeIn m contents)
+  pub few : marksIn (rangeIn m contents) (groupStatus m contents) ≤ 32
 
 past : (t : Bool) {y : Bool} → (if t then true else y) ≡ false → (t ≡ false) × (y ≡ false)
 past true e = let z : _≡_ {A = ℕ} 0 1 = cc in absurd (omega arith)
 past false e = (refl, e)
-
-same : (t : Bool) → (if t then false else true) ≡ false → t ≡ true
-same true e = refl
-same false e = let z : _≡_ {A = ℕ} 0 1 = cc in absurd (omega arith)
 
 held-so : (t : Bool) {y : Bool} → (if t then y else true) ≡ false → (t ≡ true) × (y ≡ false)
 held-so true e = (refl, e)
@@ -130,10 +128,12 @@ whole-group m indicator contents e =
     let a = past (ltb 1 (blockKind indicator)) e in
     let b = past (eqb (spanSize contents) 0) (a .1) in
     let c = past (eqb (rangeIn m contents) 0) (b .1) in
+    let d = held-so (eqb (spanSize contents) (1 + width (rangeIn m contents))) (c .1) in
     record {
       kinds = ltb-false _ _ (a .0);
       range = eqb-false _ _ (c .0);
-      exact = eqb-true _ _ (same _ (c .1));
+      exact = eqb-true _ _ (d .0);
+      few = ltb-false _ _ (d .1);
     }
 
 -- ---- what is asked, where something is

@@ -7,7 +7,7 @@ use lib.ListN.{length}
 use mathlib.Core.Bool.{Bool, true, false}
 use mathlib.Core.List.{List}
 use lib.Dec.{ltb, eqb}
-use Rattle.octets.specs.Octet.{octet}
+use Rattle.octets.specs.Octet.{octet, octets}
 use Rattle.octets.specs.Choice.{if_then_else_}
 use Rattle.octets.specs.Answer.{Answer, accepted, refused, _then_}
 use Rattle.layout.specs.declared.Span.{Span}
@@ -15,6 +15,7 @@ use Rattle.layout.specs.Spans.{spanSize}
 use Rattle.isup.specs.declared.Message.{Message}
 use Rattle.isup.specs.Limits.{lastCircuit}
 use Rattle.isup.specs.Read.{readOf}
+use Rattle.marks.specs.Marks.{marksIn}
 use Rattle.rows.specs.declared.Act.{Act}
 use Rattle.rows.specs.declared.Act.the-variants.{Seize, Release, Reset, Block, Unblock, ResetGroup, BlockGroup, UnblockGroup, Query}
 use Rattle.asks.specs.declared.Ask.{Ask}
@@ -38,13 +39,17 @@ brokenRange least m contents =
     if eqb (spanSize contents) 1 then (if ltb (rangeIn m contents) least then true else ltb 31 (rangeIn m contents))
     else true
 
--- CGB and CGU break theirs unless the kind is 0 or 1, the range 1 to 255, and after it come exactly r/8+1 status octets
+-- the status octets of CGB and CGU come after the range
+abbrev pub groupStatus : List ℕ → Span → List ℕ
+groupStatus m contents = octets m (contents .from + 1) (width (rangeIn m contents))
+
+-- CGB and CGU break theirs unless the kind is 0 or 1, the range 1 to 255, and after it come exactly r/8+1 status octets, which mark 32 circuits at the most
 unfoldable pub brokenGroup : List ℕ → ℕ → Span → Bool
 brokenGroup m indicator contents =
     if ltb 1 (blockKind indicator) then true
     else if eqb (spanSize contents) 0 then true
     else if eqb (rangeIn m contents) 0 then true
-    else if eqb (spanSize contents) (1 + width (rangeIn m contents)) then false
+    else if eqb (spanSize contents) (1 + width (rangeIn m contents)) then ltb 32 (marksIn (rangeIn m contents) (groupStatus m contents))
     else true
 
 -- a message that names one circuit: it is marked, and a block is the one for maintenance

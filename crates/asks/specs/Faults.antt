@@ -10,10 +10,11 @@ use Rattle.isup.specs.declared.Message.{Message}
 use Rattle.isup.specs.Limits.{lastCircuit}
 use Rattle.isup.specs.WellFormed.{WellFormed}
 use Rattle.isup.specs.Faults.{readerFaults}
+use Rattle.marks.specs.Marks.{marksIn}
 use Rattle.isup.specs.Types.{GRS, CGB, CGU, CQM}
 use Rattle.asks.specs.Types.{acting}
 use Rattle.layout.specs.Spans.{spanSize}
-use Rattle.asks.specs.Asks.{rangeIn, blockKind, width, indicatorIn}
+use Rattle.asks.specs.Asks.{rangeIn, blockKind, width, groupStatus, indicatorIn}
 
 -- the message reads, and what it reads as is such
 abbrev pub Reads : List ℕ → (Message → Type 0) → Type 0
@@ -29,11 +30,12 @@ pub record KeepsRange (least : ℕ) (m : List ℕ) (x : Message) : Type 0 where
   pub above : least ≤ rangeIn m (x .parts .first)
   pub most : rangeIn m (x .parts .first) ≤ 31
 
--- CGB, CGU: low two bits of the indicator 0 or 1; range from 1 on (an octet, so to 255), then exactly r/8+1 status octets
+-- CGB, CGU: low two bits of the indicator 0 or 1; range from 1 on (an octet, so to 255), then exactly r/8+1 status octets; of the circuits m to m+r at most 32 are marked
 pub record KeepsGroup (m : List ℕ) (x : Message) : Type 0 where
   pub kinds : blockKind (indicatorIn m x) ≤ 1
   pub least : 1 ≤ rangeIn m (x .parts .first)
   pub exact : spanSize (x .parts .first) ≡ 1 + width (rangeIn m (x .parts .first))
+  pub few : marksIn (rangeIn m (x .parts .first)) (groupStatus m (x .parts .first)) ≤ 32
 
 -- 14: typed contents break their rule: GRS has a range of 1 to 31, CQM of 0 to 31
 abbrev pub BreaksRule : List ℕ → Message → Type 0

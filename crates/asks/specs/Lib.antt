@@ -3,3 +3,4 @@ pub mod Asks
 pub mod Inside
 pub mod Told
 pub mod Faults
+pub mod Spare

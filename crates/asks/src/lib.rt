@@ -24,6 +24,9 @@ use rows::Act;
 // GRS and CQM have a range up to this.
 const MOST_RANGE: usize = 31;
 
+// CGB and CGU mark so many circuits at the most.
+const MOST_MARKS: usize = 32;
+
 // What a message asks: the act; the circuits, `circuit` and the `range` after it; the kind of block, 0 for maintenance and 1 for hardware; and the octet at which the status stands, 0 where each named circuit is marked.
 pub struct Ask {
     pub act: Act,
@@ -67,7 +70,7 @@ fn ask_range(message: &[u8], act: Act, circuit: usize, least: usize, contents: S
     })
 }
 
-// What CGB or CGU asks: 14 unless the kind is 0 or 1, the range 1 to 255 and the status as wide as it says, then 18.
+// What CGB or CGU asks: 14 unless the kind is 0 or 1, the range 1 to 255, the status as wide as it says and its marks 32 at the most, then 18.
 fn ask_group(message: &[u8], act: Act, circuit: usize, indicator: u8, contents: Span) -> Verdict
     requires { ⌜ (contents .from ≤ contents .to) × (contents .to ≤ length (now message)) × (circuit ≤ lastCircuit) ⌝ }
     ensures { λ r. ⌜ verdictTold r ≡ unbroken (brokenGroup (now (message .entry)) indicator contents) (groupAsk (now (message .entry)) act circuit indicator contents) ⌝ }
@@ -88,6 +91,11 @@ fn ask_group(message: &[u8], act: Act, circuit: usize, indicator: u8, contents: 
     if size != 1 + (range / 8 + 1) {
         return Verdict::Refused(14, 0);
     }
+    let status = from + 1;
+    let to = contents.to;
+    if marks::marks_in(message[from], &message[status..to]) > MOST_MARKS {
+        return Verdict::Refused(14, 0);
+    }
     if circuit + range > LAST_CIRCUIT as usize {
         return Verdict::Refused(18, 0);
     }
@@ -96,7 +104,7 @@ fn ask_group(message: &[u8], act: Act, circuit: usize, indicator: u8, contents: 
         circuit,
         range,
         block,
-        status: from + 1,
+        status,
     })
 }
 

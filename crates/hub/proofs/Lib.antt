@@ -9,6 +9,7 @@ pub mod Determined
 pub mod Local
 pub mod Legality
 pub mod Rules
+pub mod Spare
 pub mod ReadBack
 pub mod Refutations
 pub mod Orders

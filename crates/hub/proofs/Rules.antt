@@ -9,6 +9,7 @@ use native.Mathlib.Nat.{add-zero, zero-add}
 use borrow.Author.Tests.{ne-eqb, eqb-true, ltb-true, ltb-false, not-false}
 use lib.Dec.{eqb, ltb}
 use lib.ListN.{length, replicate}
+use Rattle.octets.specs.Choice.{if_then_else_}
 use Rattle.octets.specs.Octet.{octet, octets}
 use Rattle.octets.specs.Filled.{filled}
 use Rattle.isup.specs.declared.Message.{Message}
@@ -28,6 +29,8 @@ use Rattle.isup.specs.Types.{IAM, REL, RLC, RSC, BLO, UBL, BLA, UBA, GRS, CGB, 
 use Rattle.asks.specs.Types.{typeOf}
 use Rattle.asks.specs.Asks.{rangeIn, blockKind, width, broken, oneAsk, rangeAsk, groupAsk, indicatorIn, askIn, bitAt, markOf}
 use Rattle.asks.proofs.Types.{for-type}
+use Rattle.octets.specs.Sum.{total}
+use Rattle.asks.proofs.Marks.{marks-counted}
 use Rattle.asks.proofs.Reading.{Asked, ask-as, range-rule, WholeGroup, whole-group}
 use Rattle.hub.specs.Tables.{Tables}
 use Rattle.hub.specs.Rights.{firstIllegal, isFound}
@@ -263,3 +266,7 @@ module _ (T : Tables) (sender : ℕ) (m buffer : List ℕ) (x : Message) (n : �
       (λ t. inl (omega (arith, ltb-true (blockKind (indicatorIn m x)) 1 t)))
       (λ t. inr (omega (arith, ltb-false (blockKind (indicatorIn m x)) 1 t, w .kinds)))
       (decided (ltb (blockKind (indicatorIn m x)) 1))
+
+  -- and marks 32 circuits at the most, of those that it names
+  pub group-few : (x .kind ≡ CGB) ⊎ (x .kind ≡ CGU) → total (λ n. if markOf m (x .parts .first .from + 1) n then 1 else 0) 0 (rangeIn m (x .parts .first) + 1) ≤ 32
+  group-few k = let w = group-whole k in omega (arith, w .few, marks-counted m (x .parts .first))

@@ -1,5 +1,5 @@
 -- A list changed over a span: one step of it, and what it means.
-use mathlib.Core.Path.{_≡_, refl, _∙_}
+use mathlib.Core.Path.{_≡_, refl, _∙_, ap}
 use mathlib.Core.List.{List}
 use mathlib.Core.Logic.{⊎-elim}
 use Prim.Native.Nat.{ℕ, zero, suc, _+_, _<_, _≤_}
@@ -49,3 +49,11 @@ applied-in f k (suc n) l i a b h =
     (λ q. applied-below f (suc k) n _ i (omega arith) ∙ rw q (getD-set-same l i _ 0 h))
     (λ q. applied-in f (suc k) n _ i q (omega arith) (simp length-set h) ∙ rw (getD-set-other l k i _ 0 (λ e. omega arith)))
     (eq-or-lt-of-le a)
+
+-- two changes that say the same of each entry of the span
+pub applied-alike : (f g : ℕ → ℕ → ℕ) (k n : ℕ) (l : List ℕ) → ((i v : ℕ) → k ≤ i → i < k + n → f i v ≡ g i v) → applied f k n l ≡ applied g k n l
+unfolding applied
+applied-alike f g k zero l h = refl
+applied-alike f g k (suc n) l h =
+    ap (λ (v : ℕ). applied f (suc k) n (set l k v)) (h k (getD l k 0) (omega arith) (omega arith))
+    ∙ applied-alike f g (suc k) n (set l k (g k (getD l k 0))) (λ i v p q. h i v (omega arith) (omega arith))

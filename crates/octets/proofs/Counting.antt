@@ -4,11 +4,7 @@ use mathlib.Core.Path.{_≡_, refl, sym, _∙_, ap}
 use mathlib.Core.Logic.{_⊎_, inl, inr, ⊎-elim}
 use native.Mathlib.Omega.{arith}
 use native.Mathlib.Decide.{decLt}
-
--- the sum of f over the n numbers from e on
-pub total : (ℕ → ℕ) → ℕ → ℕ → ℕ
-total f e zero = 0
-total f e (suc n) = f e + total f (suc e) n
+use Rattle.octets.specs.Sum.{total}
 
 -- 1 where i is from f up to and not including t
 chosen : {i f t : ℕ} → Dec (i < f) → Dec (i < t) → ℕ

@@ -6,6 +6,7 @@ pub mod Faults
 pub mod Places
 pub mod Stretch
 pub mod Filled
+pub mod Sum
 pub mod Counting
 pub mod Applied
 pub mod Among

@@ -5,5 +5,6 @@ pub mod Faults
 pub mod Stretch
 pub mod Filled
 pub mod Applied
+pub mod Sum
 pub mod Among
 pub mod Told

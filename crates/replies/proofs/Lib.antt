@@ -2,3 +2,4 @@ pub mod Writing
 pub mod Status
 pub mod Determined
 pub mod ReadBack
+pub mod Spare

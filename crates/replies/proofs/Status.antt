@@ -1,5 +1,5 @@
 -- What an answer carries. The status, once over its width: r/8+1 octets, the message's bits 0 to r, and spare bits 0. The circuit states: octet i is the state of row i.
-use Prim.Native.Nat.{ℕ, zero, suc, _+_, _-_, _/_, _%_, _^_, _≤_, _<_}
+use Prim.Native.Nat.{ℕ, zero, suc, _+_, _/_, _%_, _^_, _≤_, _<_}
 use mathlib.Core.Path.{_≡_, refl, _∙_, ap}
 use mathlib.Core.Bool.{false}
 use mathlib.Core.List.{List, [], _∷_}
@@ -9,20 +9,15 @@ use native.Mathlib.Nat.{add-zero, zero-add, mod-lt, div-eq-of-lt, zero-div, zero
 use borrow.Author.Tests.{lt-ltb, le-ltb, ltb-true, ltb-false}
 use lib.Dec.{ltb, eqb}
 use lib.ListN.{replicate, List·getD-eq-default}
-use lib.Pow.{pow-pos, pow-mono, field, mod-mod-pow}
+use lib.Pow.{pow-pos, pow-mono}
 use Rattle.octets.specs.Octet.{octet}
 use Rattle.octets.proofs.Choice.{decided}
 use Rattle.rows.specs.Rows.{circuitState}
+use Rattle.marks.proofs.Counted.{kept-bit}
 use Rattle.asks.specs.Asks.{width, bitAt}
 use Rattle.replies.specs.Replies.{statusOctet, statusFrom, statesFrom}
 use Rattle.replies.specs.Rules.{Marks, States}
 use Rattle.replies.proofs.Writing.{length-status, length-states}
-
--- a bit below the cut is kept
-kept-bit : (x j k : ℕ) → j ≤ k → x % 2 ^ (k + 1) / 2 ^ j % 2 ≡ x / 2 ^ j % 2
-kept-bit x j k h =
-    let p : k + 1 ≡ (k - j + 1) + j = omega arith in
-    ap (λ (n : ℕ). x % 2 ^ n / 2 ^ j % 2) p ∙ ap (λ (n : ℕ). n % 2) (field x (k - j + 1) j) ∙ mod-mod-pow (x / 2 ^ j) (k - j) 1
 
 -- a bit past it is 0
 cut-bit : (x j k : ℕ) → k < j → x % 2 ^ (k + 1) / 2 ^ j % 2 ≡ 0

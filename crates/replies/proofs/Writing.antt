@@ -1,9 +1,8 @@
 -- The stores of an answer, over plain variables.
-use Prim.Native.Nat.{ℕ, zero, suc, _+_, _*_, _%_, _^_, _≤_, _<_}
+use Prim.Native.Nat.{ℕ, zero, suc, _+_, _≤_, _<_}
 use mathlib.Core.Path.{_≡_, refl, _∙_, ap}
 use mathlib.Core.List.{List, [], _∷_}
 use native.Mathlib.Omega.{arith}
-use native.Mathlib.Nat.{mod-le}
 use borrow.Author.Tests.{lt-ltb, le-ltb}
 use lib.ListN.{length, set}
 use lib.Seq.{sets}
@@ -16,33 +15,6 @@ use Rattle.rows.specs.declared.Act.the-variants.{Seize, Release, Reset, Block, 
 use Rattle.rows.specs.Rows.{circuitState}
 use Rattle.asks.specs.Asks.{width}
 use Rattle.replies.specs.Replies.{statusOctet, statusFrom, statesFrom, answerTo, sent, replyLength}
-
--- ---- the spare bits of an octet
-pub shifted : (k : ℕ) → k < 8 → 2 * 2 ^ k % 65536 ≡ 2 ^ (k + 1)
-shifted zero h = refl
-shifted (suc zero) h = refl
-shifted (suc (suc zero)) h = refl
-shifted (suc (suc (suc zero))) h = refl
-shifted (suc (suc (suc (suc zero)))) h = refl
-shifted (suc (suc (suc (suc (suc zero))))) h = refl
-shifted (suc (suc (suc (suc (suc (suc zero)))))) h = refl
-shifted (suc (suc (suc (suc (suc (suc (suc zero))))))) h = refl
-shifted (suc (suc (suc (suc (suc (suc (suc (suc k)))))))) h = absurd (omega arith)
-
-pub shift-positive : (k : ℕ) → k < 8 → 0 < 2 * 2 ^ k % 65536
-shift-positive zero h = omega arith
-shift-positive (suc zero) h = omega arith
-shift-positive (suc (suc zero)) h = omega arith
-shift-positive (suc (suc (suc zero))) h = omega arith
-shift-positive (suc (suc (suc (suc zero)))) h = omega arith
-shift-positive (suc (suc (suc (suc (suc zero))))) h = omega arith
-shift-positive (suc (suc (suc (suc (suc (suc zero)))))) h = omega arith
-shift-positive (suc (suc (suc (suc (suc (suc (suc zero))))))) h = omega arith
-shift-positive (suc (suc (suc (suc (suc (suc (suc (suc k)))))))) h = absurd (omega arith)
-
--- a remainder of an octet is an octet
-pub rest-small : (x y : ℕ) → x < 256 → x % y < 256
-rest-small x y h = omega (arith, mod-le x y)
 
 -- ---- the status
 module _ (range : ℕ) (status : List ℕ) where

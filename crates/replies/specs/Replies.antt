@@ -1,11 +1,12 @@
 -- The octets of the answer: a message in the compact form, with the message's circuit in it.
-use Prim.Native.Nat.{ℕ, zero, suc, _+_, _/_, _%_, _^_}
+use Prim.Native.Nat.{ℕ, zero, suc, _+_, _/_, _%_}
 use mathlib.Core.List.{List, [], _∷_}
 use lib.Dec.{ltb}
 use lib.ListN.{length}
 use Rattle.octets.specs.Octet.{octet}
 use Rattle.octets.specs.Choice.{if_then_else_}
 use Rattle.octets.specs.Filled.{Done, done, roomFor}
+use Rattle.marks.specs.Marks.{cutTo}
 use Rattle.rows.specs.declared.Act.{Act}
 use Rattle.rows.specs.declared.Act.the-variants.{Seize, Release, Reset, Block, Unblock, ResetGroup, BlockGroup, UnblockGroup, Query}
 use Rattle.rows.specs.Rows.{circuitState}
@@ -20,7 +21,7 @@ headed circuit type rest = (circuit % 256) ∷ (circuit / 256) ∷ type ∷ rest
 unfoldable pub statusOctet : ℕ → List ℕ → ℕ → ℕ
 statusOctet range status j =
     if ltb j (range / 8) then octet status j
-    else octet status j % 2 ^ (range % 8 + 1)
+    else cutTo (octet status j) range
 
 -- n octets of the answer's status, from octet j on
 unfoldable pub statusFrom : ℕ → List ℕ → ℕ → ℕ → List ℕ

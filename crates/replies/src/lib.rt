@@ -35,8 +35,7 @@ fn status_octet(range: u8, status: &[u8], j: usize) -> u8
     if j < (range / 8) as usize {
         return octet;
     }
-    let spare = 2u16 << ((range % 8) as u16);
-    (octet as u16 % spare) as u8
+    marks::cut(octet, range)
 }
 
 // Writes the circuit, low eight bits first, and the type to the front of `answer`.

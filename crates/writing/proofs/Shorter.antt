@@ -12,7 +12,8 @@ use Rattle.octets.specs.Octet.{octet}
 use Rattle.octets.specs.Answer.{accepted, refused}
 use Rattle.octets.proofs.Choice.{decided}
 use Rattle.octets.proofs.Octet.{length-octets}
-use Rattle.octets.proofs.Counting.{total, inside, inside-or, total-past, total-span, total-add, total-most}
+use Rattle.octets.specs.Sum.{total}
+use Rattle.octets.proofs.Counting.{inside, inside-or, total-past, total-span, total-add, total-most}
 use Rattle.layout.specs.declared.Span.{Span}
 use Rattle.layout.specs.declared.Shape.{Shape}
 use Rattle.layout.specs.declared.Parts.{Parts}

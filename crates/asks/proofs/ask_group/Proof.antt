@@ -1,6 +1,8 @@
-use borrow.Author.Tests.{le-ltb, eq-eqb, ne-eqb}
+use borrow.Author.Tests.{lt-ltb, le-ltb, eq-eqb, ne-eqb}
 use mathlib.Core.Path.{refl}
+use denote.Ref.{now}
 use Rattle.asks.specs.Asks.{brokenGroup}
+use Rattle.asks.proofs.Given.{marks-over, marks-under}
 use Rattle.octets.proofs.Tests.{tests}
 use native.Mathlib.Omega.{arith}
 use borrow.Author.Needs.{needs}
@@ -22,38 +24,57 @@ shared-slice-read-range : tie.Need-shared-slice-read-range
 shared-slice-read-range c = search needs
 
 cast-range : tie.Need-cast-range
-cast-range c = omega (arith, c .shared-slice-known .given (c .before .before .before .before .args .contents .from))
+cast-range c = omega (arith, c .shared-slice-known2 .given (c .before .before .before .before .before .args .contents .from))
 
 returns-3 : tie.Need-returns-3
 unfolding brokenGroup
 returns-3 c = search tests
 
 add-if4 : tie.Need-add-if4
-add-if4 c = omega (arith, c .before .shared-slice-known .given (c .before .before .before .before .before .args .contents .from))
+add-if4 c = omega (arith, c .before .shared-slice-known2 .given (c .before .before .before .before .before .before .args .contents .from))
 
 add-if4-2 : tie.Need-add-if4-2
-add-if4-2 c = omega (arith, c .before .shared-slice-known .given (c .before .before .before .before .before .args .contents .from))
+add-if4-2 c = omega (arith, c .before .shared-slice-known2 .given (c .before .before .before .before .before .before .args .contents .from))
 
 returns-4 : tie.Need-returns-4
 unfolding brokenGroup
 returns-4 c = search tests
 
-add-if5 : tie.Need-add-if5
-add-if5 c = omega (arith, c .before .before .shared-slice-known .given (c .before .before .before .before .before .before .args .contents .from))
+add-status : tie.Need-add-status
+add-status c = search needs
 
-cast-if5 : tie.Need-cast-if5
-cast-if5 c = search needs
+shared-slice-read-marks-in : tie.Need-shared-slice-read-marks-in
+shared-slice-read-marks-in c = search needs
+
+sub-marks-in : tie.Need-sub-marks-in
+sub-marks-in c = search needs
+
+part-marks-in-start : tie.Need-part-marks-in-start
+part-marks-in-start c = search needs
+
+part-marks-in-end : tie.Need-part-marks-in-end
+part-marks-in-end c = search needs
+
+marks-in-requires : tie.Need-marks-in-requires
+marks-in-requires c κs = search needs
 
 returns-5 : tie.Need-returns-5
 unfolding brokenGroup
-returns-5 c = search tests
+returns-5 c = rw (le-ltb _ _ (c .before .before .before .before .before .before .before .before .before .if1 .left), ne-eqb _ _ (c .before .before .before .before .before .before .before .if2 .left), ne-eqb _ _ (c .before .before .before .before .before .if3 .left), eq-eqb _ _ (c .before .before .before .before .if4 .left), marks-over (now (c .before .before .before .before .before .before .before .before .before .before .before .args .message)) (c .before .before .before .before .before .before .before .before .before .before .before .args .contents) _ (c .before .before .before .before .if4 .left) (c .before .marks-in .ensures) (c .if5 .taken)) refl
 
-add-t15 : tie.Need-add-t15
-add-t15 c = search needs
+add-if6 : tie.Need-add-if6
+add-if6 c = omega (arith, c .before .before .before .before .before .before .shared-slice-known2 .given (c .before .before .before .before .before .before .before .before .before .before .before .args .contents .from))
+
+cast-if6 : tie.Need-cast-if6
+cast-if6 c = search needs
 
 returns-6 : tie.Need-returns-6
 unfolding brokenGroup
-returns-6 c = rw (le-ltb _ _ (c .before .before .before .before .before .before .if1 .left), ne-eqb _ _ (c .before .before .before .before .if2 .left), ne-eqb _ _ (c .before .before .if3 .left), eq-eqb _ _ (c .before .if4 .left), le-ltb _ _ (c .if5 .left)) refl
+returns-6 c = rw (le-ltb _ _ (c .before .before .before .before .before .before .before .before .before .before .if1 .left), ne-eqb _ _ (c .before .before .before .before .before .before .before .before .if2 .left), ne-eqb _ _ (c .before .before .before .before .before .before .if3 .left), eq-eqb _ _ (c .before .before .before .before .before .if4 .left), marks-under (now (c .before .before .before .before .before .before .before .before .before .before .before .before .args .message)) (c .before .before .before .before .before .before .before .before .before .before .before .before .args .contents) _ (c .before .before .before .before .before .if4 .left) (c .before .before .marks-in .ensures) (c .before .if5 .left), lt-ltb _ _ (c .if6 .taken)) refl
+
+returns-7 : tie.Need-returns-7
+unfolding brokenGroup
+returns-7 c = rw (le-ltb _ _ (c .before .before .before .before .before .before .before .before .before .before .if1 .left), ne-eqb _ _ (c .before .before .before .before .before .before .before .before .if2 .left), ne-eqb _ _ (c .before .before .before .before .before .before .if3 .left), eq-eqb _ _ (c .before .before .before .before .before .if4 .left), marks-under (now (c .before .before .before .before .before .before .before .before .before .before .before .before .args .message)) (c .before .before .before .before .before .before .before .before .before .before .before .before .args .contents) _ (c .before .before .before .before .before .if4 .left) (c .before .before .marks-in .ensures) (c .before .if5 .left), le-ltb _ _ (c .if6 .left)) refl
 
 pub ask-group-spec : {M : Type 1} → statement M
 ask-group-spec =
@@ -68,8 +89,14 @@ ask-group-spec =
     add-if4
     add-if4-2
     returns-4
-    add-if5
-    cast-if5
+    add-status
+    shared-slice-read-marks-in
+    sub-marks-in
+    part-marks-in-start
+    part-marks-in-end
+    marks-in-requires
     returns-5
-    add-t15
-    returns-6)
+    add-if6
+    cast-if6
+    returns-6
+    returns-7)

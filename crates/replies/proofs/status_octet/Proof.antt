@@ -1,9 +1,8 @@
-use mathlib.Core.Path.{ap}
-use Prim.Native.Nat.{ℕ, _+_, _%_, _^_}
+use Prim.Native.Nat.{ℕ}
+use mathlib.Core.Path.{_∙_, ap}
 use borrow.Author.Tests.{lt-ltb, le-ltb}
-use native.Mathlib.Omega.{arith}
+use Rattle.marks.specs.Marks.{cutTo}
 use Rattle.replies.specs.Replies.{statusOctet}
-use Rattle.replies.proofs.Writing.{shifted, shift-positive, rest-small}
 use borrow.Author.Needs.{needs}
 use Rattle.replies.proofs.status_octet.Statement.{statement}
 use Rattle.replies.proofs.status_octet.Tie as tie
@@ -18,37 +17,14 @@ returns : tie.Need-returns
 unfolding statusOctet
 returns c = rw (lt-ltb _ _ (c .if1 .taken)) (c .before .octet-at .ensures)
 
-cast-spare : tie.Need-cast-spare
-cast-spare c = search needs
-
-shl-spare : tie.Need-shl-spare
-shl-spare c = search needs
-
-cast-result : tie.Need-cast-result
-cast-result c = search needs
-
-rem-result : tie.Need-rem-result
-rem-result c = shift-positive _ (omega arith)
-
-cast-result-2 : tie.Need-cast-result-2
-cast-result-2 c = record { fits = rest-small _ _ (omega arith) }
+cut-requires : tie.Need-cut-requires
+cut-requires c κs = search needs
 
 returns-2 : tie.Need-returns-2
 unfolding statusOctet
 returns-2 c =
-    let a = c .before .before .before .args in
-    rw (le-ltb _ _ (c .if1 .left), shifted (a .range % 8) (omega arith)) (ap (λ (o : ℕ). o % 2 ^ (a .range % 8 + 1)) (c .before .octet-at .ensures))
+    let a = c .before .before .before .before .args in
+    rw (le-ltb _ _ (c .before .if1 .left)) (c .cut .ensures ∙ ap (λ (o : ℕ). cutTo o (a .range)) (c .before .before .octet-at .ensures))
 
 pub status-octet-spec : {M : Type 1} → statement M
-status-octet-spec =
-    tie.close
-    (tie.spec
-    octet-at-requires
-    cast-if1
-    returns
-    cast-spare
-    shl-spare
-    cast-result
-    rem-result
-    cast-result-2
-    returns-2)
+status-octet-spec = tie.close (tie.spec octet-at-requires cast-if1 returns cut-requires returns-2)

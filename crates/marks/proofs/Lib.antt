@@ -1,0 +1,4 @@
+pub mod Shifts
+pub mod Counted
+pub mod Laws
+pub mod Determined

@@ -1,0 +1,40 @@
+// How many circuits the status of a group marks.
+ghost use mathlib.Core.Path.{_≡_};
+ghost use Prim.Native.Nat.{_*_, _≤_};
+ghost use lib.ListN.{length};
+ghost use Rattle.octets.specs.Sum.{total};
+ghost use Rattle.marks.specs.Marks.{statusBit, cutTo, marksIn};
+
+// The low bits of an octet, as many as the last status octet of that range has; the spare bits are 0.
+pub fn cut(octet: u8, range: u8) -> u8
+    ensures { λ r. ⌜ r ≡ cutTo octet range ⌝ }
+{
+    let spare = 2u16 << ((range % 8) as u16);
+    (octet as u16 % spare) as u8
+}
+
+// How many bits of the first octets are 1, `count` octets of them.
+fn ones_in(octets: &[u8], count: usize) -> u8
+    requires { ⌜ (count ≤ length (now octets)) × (count ≤ 31) ⌝ }
+    ensures { λ r. ⌜ r ≡ total (statusBit (now (octets .entry))) 0 (8 * count) ⌝ }
+{
+    let mut ones = 0u8;
+    let mut j = 0;
+    while j < count {
+        ones += u8::count_ones(octets[j]) as u8;
+        j += 1;
+    }
+    ones
+}
+
+// How many of the circuits m to m+range a status marks: its bits 0 to range that are 1. What is past the status's end counts as 0.
+pub fn marks_in(range: u8, status: &[u8]) -> usize
+    ensures { λ r. ⌜ r ≡ marksIn range (now (status .entry)) ⌝ }
+{
+    let last = (range / 8) as usize;
+    if last < status.len() {
+        let whole = ones_in(status, last) as usize;
+        return whole + u8::count_ones(cut(status[last], range)) as usize;
+    }
+    ones_in(status, status.len()) as usize
+}
