@@ -120,10 +120,18 @@ uint32_t llachurep_number_write(uint32_t nature, uint32_t plan, uint32_t interna
  * Accepted: v is how many octets the answer has (0 for an IAM, 40 at the most), at the front of answer, and the states
  * of the circuits that the message names become what its rule says; all other states and the rest of answer stay. A
  * circuit query (CQM) changes no state and is answered by CQR, with an octet for each circuit: 0C idle, 04 busy, 02 more
- * where it is blocked for maintenance, 20 more where it is blocked for hardware.
+ * where it is blocked for maintenance, 20 more where it is blocked for hardware, 01 more where it is blocked from our
+ * side (8 in its state). RSC on such a circuit is answered by BLO and then RLC, seven octets; RSC and GRS keep the 8.
  * Refused: 16; as llachurep_read, but for its 13; 17, 14, 18, 19, 20, 21, 13. */
 uint32_t llachurep_act(uint8_t *states, size_t states_length, const uint8_t *owners, size_t owners_length,
                        uint32_t sender, const uint8_t *message, size_t length, uint8_t *answer, size_t answer_length);
+
+/* Blocks a circuit from our side (8 in its state), or ends that where set is 0, whoever owns it. Accepted: v is 3, and the
+ * BLO or UBL to send stands at the front of answer; the rest of answer and all other states stay. Setting what is set is
+ * accepted and answers again.
+ * Refused: 16 where there are not 4096 states, 9 for a circuit above 4095, 20 where its state is not legal, 13. */
+uint32_t llachurep_block(uint8_t *states, size_t states_length, uint32_t circuit, uint32_t set, uint8_t *answer,
+                         size_t answer_length);
 
 /* Codes a bearing in degrees and a speed in km/h (Q.1902.3, 6.19.1). Accepted: v is 2; codes[0] is the bearing's whole
  * degrees and codes[1] the nearest whole speed, a half going up, 65535 from 65534.5 on; further elements of codes stay.

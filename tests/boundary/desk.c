@@ -244,6 +244,10 @@ static void answer(size_t length)
     } else if (is(length, "act", "nor")) {
         octets("answer", CALL(act)(states, 4096, owners, 4096, f[0].number, f[1].octets, f[1].count, out, f[2].number),
                1);
+    } else if (is(length, "block", "nr")) {
+        octets("answer", CALL(block)(states, 4096, f[0].number, 1, out, f[1].number), 0);
+    } else if (is(length, "unblock", "nr")) {
+        octets("answer", CALL(block)(states, 4096, f[0].number, 0, out, f[1].number), 0);
     } else if (is(length, "rows", "cc") && f[0].number <= f[1].number) {
         printf("rows ");
         hex(states + f[0].number, f[1].number - f[0].number + 1);

@@ -395,18 +395,20 @@ uint32_t plain_velocity_read(uint32_t bearing, uint32_t speed, double *values, s
 
 /* ------------------------------------------------------------------------------------------------ the hub */
 
-enum { BUSY = 1, MAINTENANCE = 2, HARDWARE = 4 };
+enum { BUSY = 1, MAINTENANCE = 2, HARDWARE = 4, LOCAL = 8 };
 
-/* Legal states: 0, 1, 2, 3, 4, 6. */
+/* Legal states: 0, 1, 2, 3, 4, 6, and each of them with our own block, 8. */
 static int legal(unsigned state)
 {
-    return state <= 4 || state == 6;
+    unsigned base = state & ~(unsigned)LOCAL;
+    return base <= 4 || base == 6;
 }
 
-/* Idle 0C, busy 04; a remote maintenance block adds 02, a remote hardware block 20. */
+/* Idle 0C, busy 04; a remote maintenance block adds 02, a remote hardware block 20, our own block 01. */
 static uint8_t circuit_state(unsigned state)
 {
-    return (uint8_t)((state & BUSY ? 0x04 : 0x0C) + (state & MAINTENANCE ? 0x02 : 0) + (state & HARDWARE ? 0x20 : 0));
+    return (uint8_t)((state & BUSY ? 0x04 : 0x0C) + (state & MAINTENANCE ? 0x02 : 0) + (state & HARDWARE ? 0x20 : 0) +
+                     (state & LOCAL ? 0x01 : 0));
 }
 
 /* How many of the bits 0 to range are 1; those beyond are spare. */
@@ -484,6 +486,8 @@ uint32_t plain_act(uint8_t *states, size_t states_length, const uint8_t *owners,
             return refusal(20);
     if (x.type == IAM && row[0] != 0)
         return refusal(21);
+    if (x.type == RSC && row[0] & LOCAL)
+        need = 7;
     if (need > room)
         return refusal(13);
 
@@ -501,9 +505,14 @@ uint32_t plain_act(uint8_t *states, size_t states_length, const uint8_t *owners,
         row[0] &= (uint8_t)~BUSY;
         break;
     case RSC:
-        answer[2] = RLC;
-        answer[3] = 0;
-        row[0] = 0;
+        if (need == 7) {
+            answer[2] = BLO;
+            answer[3] = (uint8_t)m;
+            answer[4] = (uint8_t)(m >> 8);
+        }
+        answer[need - 2] = RLC;
+        answer[need - 1] = 0;
+        row[0] &= LOCAL;
         break;
     case BLO:
         answer[2] = BLA;
@@ -519,7 +528,10 @@ uint32_t plain_act(uint8_t *states, size_t states_length, const uint8_t *owners,
         answer[4] = (uint8_t)(1 + range / 8 + 1);
         answer[5] = (uint8_t)range;
         memset(answer + 6, 0, range / 8 + 1);
-        memset(row, 0, range + 1);
+        for (unsigned n = 0; n <= range; n++) {
+            row[n] &= LOCAL;
+            answer[6 + n / 8] |= (uint8_t)((row[n] ? 1u : 0u) << n % 8);
+        }
         break;
     case CQM:
         answer[2] = CQR;
@@ -554,4 +566,22 @@ uint32_t plain_act(uint8_t *states, size_t states_length, const uint8_t *owners,
     }
     }
     return need;
+}
+
+/* 16, 9, 20, 13. */
+uint32_t plain_block(uint8_t *states, size_t states_length, uint32_t circuit, uint32_t set, uint8_t *answer, size_t room)
+{
+    if (states_length != CIRCUITS)
+        return refusal(16);
+    if (circuit >= CIRCUITS)
+        return refusal(9);
+    if (!legal(states[circuit]))
+        return refusal(20);
+    if (room < 3)
+        return refusal(13);
+    answer[0] = (uint8_t)circuit;
+    answer[1] = (uint8_t)(circuit >> 8);
+    answer[2] = set ? BLO : UBL;
+    states[circuit] = (uint8_t)(set ? states[circuit] | LOCAL : states[circuit] & ~LOCAL);
+    return 3;
 }

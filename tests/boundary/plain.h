@@ -17,6 +17,7 @@ uint32_t plain_number_write(uint32_t nature, uint32_t plan, uint32_t internal, c
                             uint8_t *out, size_t room);
 uint32_t plain_act(uint8_t *states, size_t states_length, const uint8_t *owners, size_t owners_length, uint32_t sender,
                    const uint8_t *message, size_t length, uint8_t *answer, size_t room);
+uint32_t plain_block(uint8_t *states, size_t states_length, uint32_t circuit, uint32_t set, uint8_t *answer, size_t room);
 uint32_t plain_velocity_code(double bearing, double speed, uint16_t *codes, size_t count);
 uint32_t plain_velocity_code_vertical(double bearing, double speed, double vertical, uint16_t *codes, size_t count);
 uint32_t plain_velocity_read(uint32_t bearing, uint32_t speed, double *values, size_t count);

@@ -12,8 +12,8 @@
 
 enum { MESSAGES = 200000, SHOWN = 10 };
 
-enum { READ, WRITE, COMPACT, FIND, NUMBER_READ, NUMBER_WRITE, ACT, VELOCITY_CODE, VELOCITY_VERTICAL, VELOCITY_READ, FUNCTIONS };
-static const char *const names[FUNCTIONS] = {"read", "write", "compact", "find", "number_read", "number_write", "act",
+enum { READ, WRITE, COMPACT, FIND, NUMBER_READ, NUMBER_WRITE, ACT, BLOCK, VELOCITY_CODE, VELOCITY_VERTICAL, VELOCITY_READ, FUNCTIONS };
+static const char *const names[FUNCTIONS] = {"read", "write", "compact", "find", "number_read", "number_write", "act", "block",
                                              "velocity", "vertical", "velocity_read"};
 
 static unsigned long checks, failures;
@@ -406,6 +406,36 @@ static uint32_t try_act(uint32_t sender, const uint8_t *message, size_t length, 
             printf("  sender %u, room %u\n", sender, (unsigned)room);
             show("message", message, length);
         }
+        theirs_tables = ours_tables;
+        before_tables = ours_tables;
+    }
+    return got;
+}
+
+static uint32_t try_block(uint32_t circuit, uint32_t set, size_t room)
+{
+    begin();
+    size_t a = lend(0, room);
+    ready();
+    int null = null_if_empty;
+    uint32_t got = llachurep_block(states_length || !null ? ours_tables.states : NULL, states_length, circuit, set,
+                                   at(ours, a, room), room);
+    uint32_t wanted = plain_block(states_length || !null ? theirs_tables.states : NULL, states_length, circuit, set,
+                                  at(theirs, a, room), room);
+    int good = settle(BLOCK, got, wanted, got >> 16, a, got & 65535);
+    if (good && memcmp(&ours_tables, &theirs_tables, sizeof ours_tables) != 0) {
+        failed("block leaves another table than the plain code");
+        good = 0;
+    }
+    if (got >> 16 == 0)
+        before_tables.states[circuit] = ours_tables.states[circuit];
+    if (good && memcmp(&ours_tables, &before_tables, sizeof ours_tables) != 0) {
+        failed("block changes other rows");
+        good = 0;
+    }
+    if (!good) {
+        if (failures <= SHOWN)
+            printf("  circuit %u, set %u, room %u\n", circuit, set, (unsigned)room);
         theirs_tables = ours_tables;
         before_tables = ours_tables;
     }
@@ -847,6 +877,17 @@ static void act_cases(void)
     acts("ff 0f 14", 3, "ff 0f 16", 4095, 1);
     acts("01 00 0C 02 00 02 80 90", 3, "01 00 10 00", 1, 2);
     acts("01 00 12", 6, "01 00 10 00", 1, 0);
+    acts("01 00 12", 14, "01 00 13 01 00 10 00", 1, 8);
+    acts("ff 0f 12", 9, "ff 0f 13 ff 0f 10 00", 4095, 8);
+    acts("01 00 0C 02 00 02 80 90", 11, "01 00 10 00", 1, 10);
+    acts("23 01 13", 8, "23 01 15", 291, 10);
+    acts("ff 0f 14", 11, "ff 0f 16", 4095, 9);
+    acts("05 00 17 01 01 03", 14, "05 00 29 01 02 03 0f", 8, 8);
+    acts("05 00 17 01 01 08", 9, "05 00 29 01 03 08 ff 01", 13, 8);
+    acts("05 00 2A 01 01 01", 9, "05 00 2b 02 03 01 01 02 05 05", 6, 9);
+    acts("ff 0f 2A 01 01 00", 14, "ff 0f 2b 02 03 01 00 01 2f", 4095, 14);
+    acts("08 00 18 01 01 03 09 01 02", 11, "08 00 1a 01 01 03 09 01 02", 8, 14);
+    acts("08 00 19 01 01 03 09 01 02", 14, "08 00 1b 01 01 03 09 01 02", 17, 10);
     acts("01 00 01 00 60 01 0A 00 02 00 04 03 10 21 43", 0, "", 1, 1);
     acts("01 00 01 00 60 01 0A 00 02 00 00", 0, "", 1, 1);
     acts("00 00 18 00 01 06 27 ff ff ff ff 00", 0, "00 00 1a 00 01 06 27 ff ff ff ff 00", 31, 2);
@@ -913,14 +954,51 @@ static void act_cases(void)
     table(7, 0, 4, 9, 5);
     want("act", "one before the group", try_act(7, octets, hex("05 00 17 01 01 03", octets), 268), 7);
     for (unsigned state = 0; state < 256; state++) {
-        int good = state <= 4 || state == 6;
+        int good = state < 16 && ((state & 7) <= 4 || (state & 7) == 6);
         table(255, 0, 1, 255, state);
         want("act, IAM", "each state", try_act(255, octets, hex("01 00 01 00 60 01 0A 00 02 00 00", octets), 0),
              state == 0 ? 0 : good ? REFUSED(21) : REFUSED(20));
-        want("act, RSC", "each state", try_act(255, octets, hex("01 00 12", octets), 4), good ? 4 : REFUSED(20));
+        want("act, RSC", "each state", try_act(255, octets, hex("01 00 12", octets), 4),
+             !good ? REFUSED(20) : state & 8 ? REFUSED(13) : 4);
+        want("act, RSC", "each state", try_act(255, octets, hex("01 00 12", octets), 7),
+             !good ? REFUSED(20) : state & 8 ? 7 : 4);
+        for (uint32_t set = 0; set < 2; set++) {
+            table(255, 0, 1, 255, state);
+            want("block, room 2", "each state", try_block(1, set, 2), good ? REFUSED(13) : REFUSED(20));
+            want("block", "each state", try_block(1, set ? 0x80000000 : 0, 3), good ? 3 : REFUSED(20));
+            if (good) {
+                want_octets("block", "each state", 3, set ? "01 00 13" : "01 00 14");
+                want("block, the row", "each state", ours_tables.states[1], set ? state | 8 : state & ~8u);
+            }
+        }
     }
     table(7, 0, 1, 9, 5);
     act_refused("01 00 01 00 60 01 0A 00 02 00 00", 7, 19);
+}
+
+static void block_cases(void)
+{
+    static const size_t lengths[] = {0, 1, 4095, 4097};
+    static const uint32_t past[] = {4096, 4097, 4101, 8191, 65536, 65541, 0x7fffffff, 0xffffffff};
+    table(7, 0, 4096, 7, 0);
+    for (int i = 0; i < 4; i++) {
+        states_length = lengths[i];
+        for (int j = 0; j < 8; j++)
+            want("block", "16 first", try_block(past[j], 1, 0), REFUSED(16));
+        want("block", "16 first", try_block(0, 1, 3), REFUSED(16));
+    }
+    states_length = 4096;
+    for (int j = 0; j < 8; j++) {
+        want("block", "9 before 20 and 13", try_block(past[j], 1, 0), REFUSED(9));
+        want("block", "9", try_block(past[j], 0, 3), REFUSED(9));
+    }
+    want("block", "twice", try_block(4095, 7, 268), 3);
+    want("block", "twice", try_block(4095, 1, 3), 3);
+    want("block, the row", "twice", ours_tables.states[4095], 8);
+    want("block", "nothing set", try_block(0, 0, 4), 3);
+    want("block, the row", "nothing set", ours_tables.states[0], 0);
+    table(7, 13, 4096, 7, 13);
+    want("block", "20 before 13", try_block(5, 1, 0), REFUSED(20));
 }
 
 /* ------------------------------------------------------------------------------------------------ generated messages */
@@ -930,7 +1008,7 @@ static const uint8_t types[24] = {0x01, 0x02, 0x05, 0x06, 0x07, 0x09, 0x0C, 0x0D
 static const uint8_t acted[9] = {0x01, 0x0C, 0x12, 0x13, 0x14, 0x17, 0x18, 0x19, 0x2A};
 static const uint8_t parameter_names[8] = {0x01, 0x03, 0x20, 0x20, 0x20, 0x80, 0xFF, 0x01};
 static const uint8_t owners_of_zones[8] = {1, 2, 3, 7, 200, 255, 0, 7};
-static const uint8_t legal_states[6] = {0, 1, 2, 3, 4, 6};
+static const uint8_t legal_states[12] = {0, 1, 2, 3, 4, 6, 8, 9, 10, 11, 12, 14};
 
 /* The table's columns, once more. */
 static void shape_of(unsigned type, size_t *fixed, size_t *variable, int *optional)
@@ -1111,11 +1189,11 @@ static void change_tables(int all)
                 before_tables.owners[c++] = (uint8_t)owner;
         }
         for (unsigned c = 0; c < 4097; c++)
-            before_tables.states[c] = legal_states[below(6)];
+            before_tables.states[c] = legal_states[one_in(2) ? below(6) : below(12)];
     }
     unsigned from = below(4096), count = below(64);
     for (unsigned c = from; c < from + count && c < 4096; c++)
-        before_tables.states[c] = legal_states[one_in(2) ? 0 : below(6)];
+        before_tables.states[c] = legal_states[one_in(2) ? 0 : below(12)];
     from = below(4096);
     count = below(8);
     unsigned owner = owners_of_zones[below(8)];
@@ -1206,6 +1284,14 @@ static void generated(void)
         }
         try_act(sender, m, length, one_in(3) ? near(needed) : 268);
         states_length = owners_length = 4096;
+
+        if (one_in(5)) {
+            if (one_in(200))
+                states_length = between(4095, 4097);
+            try_block(one_in(20) ? chance() : one_in(20) ? between(4090, 4100) : below(4096), one_in(3) ? 0 : chance(),
+                      one_in(3) ? below(5) : 268);
+            states_length = 4096;
+        }
 
         if (one_in(3))
             spoil_given(&w);
@@ -1344,6 +1430,7 @@ static void reached(void)
         [NUMBER_READ] = {1, 0, 0, 0, 0, 0, 0, 0, 0, 0, 0, 0, 0, 1, 1},
         [NUMBER_WRITE] = {1, 0, 0, 0, 0, 0, 0, 0, 0, 0, 0, 0, 0, 1, 1},
         [ACT] = {1, 1, 1, 1, 1, 1, 1, 1, 1, 0, 0, 0, 0, 1, 1, 0, 1, 1, 1, 1, 1, 1},
+        [BLOCK] = {[0] = 1, [9] = 1, [13] = 1, [16] = 1, [20] = 1},
         [VELOCITY_CODE] = {[0] = 1, [13] = 1, [26] = 1},
         [VELOCITY_VERTICAL] = {[0] = 1, [13] = 1, [26] = 1},
         [VELOCITY_READ] = {[0] = 1, [13] = 1, [26] = 1},
@@ -1386,6 +1473,7 @@ int main(void)
     find_cases();
     number_cases();
     act_cases();
+    block_cases();
     velocity_cases();
     generated();
     generated_velocities();

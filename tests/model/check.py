@@ -22,6 +22,8 @@ REACHED = {
     "set": [],
     "act": READER + [17, 14, 18, 19, 20, 21, 13],
     "rows": [],
+    "block": [9, 20, 13],
+    "unblock": [9, 20, 13],
     "velocity": [26],
     "velocity-back": [26],
 }

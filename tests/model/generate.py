@@ -14,7 +14,7 @@ import model
 import velocities
 from model import SHAPES, IAM, REL, RSC, BLO, UBL, GRS, CGB, CGU, CQM
 
-STORED_COUNT = 3200
+STORED_COUNT = 4400
 STORED_SEED = 763
 
 TYPES = sorted(SHAPES)
@@ -29,7 +29,8 @@ ACTED = [IAM, REL, RSC, BLO, UBL, GRS, CGB, CGU, CQM]
 OTHERS = [kind for kind in TYPES if kind not in ACTED]
 CQR = 0x2B
 NAMES = [0x01, 0x03, 0x0A, 0x20, 0x31, 0x80, 0xFF]
-ILLEGAL = [5, 7, 8, 9, 16, 128, 255]
+ILLEGAL = [5, 7, 13, 15, 16, 24, 128, 255]
+STATES = [0, 1, 2, 3, 4, 6, 8, 9, 10, 11, 12, 14]
 TOP = 4294967295
 
 
@@ -613,14 +614,14 @@ class Generator:
         return self.pick([1, 1, 2, 7, 100, 254, 255, self.between(1, 255)])
 
     def legal(self):
-        return self.pick([0, 0, 0, 1, 1, 2, 3, 4, 6])
+        return self.pick([0, 0, 0, 1, 1, 2, 3, 4, 6, 8, 8, 9, 10, 11, 12, 14])
 
     def rows(self, low, high):
         return self.line("rows", max(0, low), min(4095, high))
 
     def need(self, kind, r):
-        """How many octets the hub answers."""
-        return {IAM: 0, REL: 4, RSC: 4, BLO: 3, UBL: 3, GRS: 7 + r // 8, CGB: 8 + r // 8, CGU: 8 + r // 8,
+        """How many octets the hub answers; to RSC it may be four."""
+        return {IAM: 0, REL: 4, RSC: self.pick([4, 7, 7]), BLO: 3, UBL: 3, GRS: 7 + r // 8, CGB: 8 + r // 8, CGU: 8 + r // 8,
                 CQM: 9 + r}[kind]
 
     def prepare(self, m, r, sender):
@@ -696,7 +697,7 @@ class Generator:
         kind = self.pick([IAM, IAM, REL, RSC, BLO, UBL])
         m = self.circuit()
         sender = self.sender()
-        state = self.pick([0, 1, 2, 3, 4, 6, 0, 1])
+        state = self.pick(STATES + [0, 1, 0, 8])
         made = [self.line("own", m, m, sender), self.line("set", m, m, state)]
         asker = sender
         faults = self.rng.random()
@@ -765,6 +766,24 @@ class Generator:
             return [self.line("act", sender, self.well(self.pick(OTHERS), m), self.room(4))]
         return [self.line("act", sender, self.message(), self.room(4))]
 
+    def ours(self):
+        """The desk's own blocks, on circuits of anybody, in any state, and what the exchanges then hear."""
+        m = self.circuit()
+        made = []
+        if self.chance(0.7):
+            sender = self.pick([0, self.sender(), self.sender()])
+            made += [self.line("own", m, m, sender), self.line("set", m, m, self.pick(STATES + ILLEGAL))]
+        for _ in range(self.between(1, 4)):
+            word = self.pick(["block", "block", "unblock"])
+            where = self.weighted([(12, m), (2, self.pick([4095, 4096, 4097, 8192, 4096 + m, 65536 + m, TOP])), (1, self.circuit())])
+            made.append(self.line(word, where, self.room(3)))
+            if self.chance(0.5):
+                kind = self.pick([IAM, REL, RSC, RSC, BLO, UBL, GRS, CQM])
+                r = self.pick([1, 2, 7, 8]) if kind in (GRS, CQM) else 0
+                made.append(self.line("act", self.desk.owners[m], self.asking(kind, m, r), self.room(self.need(kind, r))))
+            made.append(self.rows(m - 1, m + 1))
+        return made
+
     def look(self):
         low = self.circuit()
         high = min(4095, low + self.pick([0, 0, 1, 3, 40]))
@@ -806,7 +825,7 @@ class Generator:
 
     def request(self):
         return self.pick([self.shape, self.read, self.write, self.compact, self.find, self.number, self.dial,
-                          self.look, self.strange, self.spans, self.velocity, self.velocity_back])()[0]
+                          self.look, self.strange, self.spans, self.ours, self.velocity, self.velocity_back])()[0]
 
     def long(self):
         """Lines of 8192 octets, of one more, and of many more."""
@@ -974,20 +993,19 @@ class Generator:
     def tables(self):
         """Scenes with the tables at the very edge of each circuit rule."""
         made = []
-        states = [0, 1, 2, 3, 4, 6]
-        sets = [b"own 600 605 9"] + [b"set %d %d %d" % (600 + n, 600 + n, state) for n, state in enumerate(states)]
+        sets = [b"own 600 611 9"] + [b"set %d %d %d" % (600 + n, 600 + n, state) for n, state in enumerate(STATES)]
         # Every rule on every legal state.
         for kind in (IAM, REL, RSC, BLO, UBL):
             row = SHAPES[kind]
             acts = []
-            for n in range(6):
+            for n in range(12):
                 message = self.lay(kind, 600 + n, bytes(row.fixed), [b"\1"] * row.variable, None)
-                acts.append(b"act 9 %s %d" % (message.hex().encode(), self.need(kind, 0)))
-            made.append(sets + acts + [b"rows 600 605"])
+                acts.append(b"act 9 %s %d" % (message.hex().encode(), 7 if kind == RSC else self.need(kind, 0)))
+            made.append(sets + acts + [b"rows 600 611"])
         for kind in (CGB, CGU):
             for fixed in (0, 1):
-                message = self.lay(kind, 600, bytes([fixed]), [b"\x05\x3f"], None)
-                made.append(sets + [b"act 9 %s 8" % message.hex().encode(), b"rows 600 605"])
+                message = self.lay(kind, 600, bytes([fixed]), [b"\x0b\xff\x0f"], None)
+                made.append(sets + [b"act 9 %s 9" % message.hex().encode(), b"rows 600 611"])
         # Every state that is not legal, under an IAM, a BLO, a GRS.
         for state in ILLEGAL:
             made.append([b"own 700 703 9", b"set 700 703 0", b"set 701 701 %d" % state,
@@ -995,8 +1013,8 @@ class Generator:
                          b"act 9 bc0217010103 9", b"rows 700 703"])
 
         # A query over rows of every legal state, over one that is not legal, over the last circuits, and with too little room.
-        scene = [b"own 700 740 9"] + [b"set %d %d %d" % (700 + i, 700 + i, each) for i, each in enumerate((0, 1, 2, 3, 4, 6))]
-        for r in (0, 1, 4, 5, 31):
+        scene = [b"own 700 740 9"] + [b"set %d %d %d" % (700 + i, 700 + i, each) for i, each in enumerate(STATES)]
+        for r in (0, 1, 4, 5, 11, 31):
             message = self.lay(CQM, 700, b"", [bytes([r])], None).hex().encode()
             scene += [b"act 9 %s %d" % (message, room) for room in (0, 8 + r, 9 + r, 10 + r)]
         made.append(scene + [b"set 703 703 5", b"act 9 bc022a010104 99", b"act 9 bc022a010102 99", b"rows 700 705",
@@ -1006,6 +1024,30 @@ class Generator:
             message = self.lay(CQM, 1000, b"", [bytes.fromhex(contents)], None)
             scene.append(b"act 9 %s 99" % message.hex().encode())
         made.append(scene + [b"rows 1000 1034"])
+
+        # Our own block on every legal state, twice, and off again, twice; on states that are not legal; room 2, 3 and more; circuits
+        # that nobody owns, the last one, and those past it, also such as would be 5 if they were cut to twelve bits.
+        made.append(sets + [b"%s %d 3" % (word, 600 + n) for word in (b"block", b"block", b"unblock", b"unblock") for n in range(12)]
+                    + [b"rows 600 611"])
+        made.append(sets + [b"block %d 3" % (600 + n) for n in range(12)] + [b"rows 600 611"])
+        for state in ILLEGAL:
+            made.append([b"set 700 700 %d" % state, b"block 700 3", b"unblock 700 2", b"rows 700 700"])
+        made.append([b"own 5 5 0", b"set 5 5 0", b"own 4095 4095 0", b"set 4095 4095 0"]
+                    + [b"%s %d %d" % (word, circuit, room) for word in (b"block", b"unblock")
+                       for circuit in (5, 4095, 4096, 4101, 65541, 4294967295) for room in (2, 3, 4, 0, 1024)]
+                    + [b"rows 5 5", b"rows 4095 4095", b"block 4294967296 3", b"block 5 1025", b"block 5", b"block", b"blocks 5 3",
+                       b"unblock 5 3 1", b"unbloc 5 3", b"block -1 3", b"block 0x5 3"])
+        # RSC where the 8 is set, with room for four, six and seven octets; GRS over locally blocked circuits at every place; IAM.
+        rsc = [b"act 9 580212 %d" % room for room in (3, 4, 6, 7)]
+        made.append([b"own 600 600 9", b"set 600 600 11"] + rsc + [b"rows 600 600", b"unblock 600 3"] + rsc + [b"rows 600 600"])
+        for r in (1, 7, 8, 31):
+            for spots in ((0,), (r,), tuple(range(0, r + 1, 2))):
+                scene = [b"own 600 640 9", b"set 600 640 3"] + [b"block %d 3" % (600 + n) for n in spots] + [b"block %d 3" % (601 + r)]
+                message = self.lay(GRS, 600, b"", [bytes([r])], None).hex().encode()
+                made.append(scene + [b"act 9 %s %d" % (message, room) for room in (6 + r // 8, 7 + r // 8)] + [b"rows 600 640"])
+        made.append([b"own 600 600 9", b"set 600 600 0", b"block 600 3", b"act 9 580201000000000002000100 9", b"act 9 580213 3",
+                     b"act 9 58020c020001 4", b"act 9 580214 3", b"unblock 600 3", b"act 9 580201000000000002000100 9", b"block 600 3",
+                     b"act 9 58022a010100 99", b"act 9 58020c02000180 4", b"rows 600 600"])
 
         # Typed contents of a GRS, and of a CGB: every indicator, ranges and status octets of right and wrong count.
         scene = [b"own 1000 1300 9", b"set 1000 1300 1"]
@@ -1080,7 +1122,7 @@ class Generator:
         return self.weighted([
             (3, self.shape), (22, self.read), (20, self.write), (15, self.compact), (18, self.find),
             (9, self.number), (9, self.dial), (10, self.group), (7, self.single), (4, self.going), (1, self.spans),
-            (18, self.strange), (1, self.look), (10, self.velocity), (4, self.velocity_back), (11, lambda: [self.bad()])])()
+            (18, self.strange), (6, self.ours), (1, self.look), (10, self.velocity), (4, self.velocity_back), (11, lambda: [self.bad()])])()
 
     def next(self):
         """The next line, without LF; with a CR in some."""

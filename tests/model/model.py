@@ -285,8 +285,9 @@ def dial(nature, plan, internal, signals, room):
 
 # ---------------------------------------------------------------- the hub
 
-BUSY, MAINTENANCE, HARDWARE = 1, 2, 4
-LEGAL = (0, 1, 2, 3, 4, 6)
+BUSY, MAINTENANCE, HARDWARE, LOCAL = 1, 2, 4, 8
+# Any of the six states of the base, or one of them with our own block on top.
+LEGAL = (0, 1, 2, 3, 4, 6) + tuple(LOCAL + state for state in (0, 1, 2, 3, 4, 6))
 
 
 class Ask(NamedTuple):
@@ -307,13 +308,32 @@ def always(answer):
 
 
 def circuit_state(state):
-    """The circuit state octet of a query's answer: idle 0C, busy 04, remote maintenance block 02, remote hardware block 20."""
+    """The circuit state octet of a query's answer: idle 0C, busy 04, remote maintenance block 02, remote hardware block 20,
+    our own block 01."""
     coded = 0x04 if state & BUSY else 0x0C
     if state & MAINTENANCE:
         coded += 0x02
     if state & HARDWARE:
         coded += 0x20
+    if state & LOCAL:
+        coded += 0x01
     return coded
+
+
+def reset_answer(m):
+    """RLC; where the circuit is locally blocked, BLO followed by RLC."""
+    return lambda states: (plain(m, BLO) if states[0] & LOCAL else b"") + plain(m, RLC)
+
+
+def group_reset_answer(m, r):
+    """GRA, whose status has a 1 for each circuit locally blocked."""
+    def answer(states):
+        status = bytearray(r // 8 + 1)
+        for n, state in enumerate(states):
+            if state & LOCAL:
+                status[n // 8] |= 1 << n % 8
+        return plain(m, GRA, first=bytes([r]) + bytes(status))
+    return answer
 
 
 def ask(message):
@@ -324,7 +344,7 @@ def ask(message):
     if message.kind == REL:
         return Ask(0, (True,), lambda state: state & ~BUSY, always(plain(m, RLC)))
     if message.kind == RSC:
-        return Ask(0, (True,), lambda state: 0, always(plain(m, RLC)))
+        return Ask(0, (True,), lambda state: state & LOCAL, reset_answer(m))
     if message.kind == BLO:
         return Ask(0, (True,), lambda state: state | MAINTENANCE, always(plain(m, BLA)))
     if message.kind == UBL:
@@ -338,8 +358,7 @@ def ask(message):
         if message.kind == CQM:
             return Ask(r, (False,) * (r + 1), None, lambda states: plain(
                 m, CQR, first=bytes([r]), second=bytes(circuit_state(each) for each in states)))
-        return Ask(r, (True,) * (r + 1), lambda state: 0,
-                   always(plain(m, GRA, first=bytes([r]) + bytes(r // 8 + 1))))
+        return Ask(r, (True,) * (r + 1), lambda state: state & LOCAL, group_reset_answer(m, r))
     if message.kind in (CGB, CGU):
         kind = message.fixed[0] % 4                 # the other bits are spare
         contents = message.variable[0]
@@ -395,6 +414,20 @@ def act(states, owners, sender, message, room):
         return 13
     rows = bytes(asked.rule(states[c]) if asked.marks[c - m] else states[c] for c in named)
     return answer, rows
+
+
+def block(states, circuit, set_it, room):
+    """A call of our own desk: 16, 9, 20, 13. Accepted: the BLO or UBL to send, and the circuit's new state."""
+    if len(states) != CIRCUITS:
+        return 16
+    if circuit > 4095:
+        return 9
+    if states[circuit] not in LEGAL:
+        return 20
+    notice = plain(circuit, BLO if set_it else UBL)
+    if len(notice) > room:
+        return 13
+    return notice, states[circuit] | LOCAL if set_it else states[circuit] & ~LOCAL
 
 
 # ---------------------------------------------------------------- the fields of a line
@@ -473,6 +506,8 @@ FIELDS = {
     b"set": (CIRCUIT, CIRCUIT, SMALL),
     b"act": (ANY, octets, ROOM),
     b"rows": (CIRCUIT, CIRCUIT),
+    b"block": (ANY, ROOM),
+    b"unblock": (ANY, ROOM),
     b"velocity": (value, value),
     b"velocity-back": (CODE, CODE),
 }
@@ -576,6 +611,17 @@ class Desk:
             m = read(message).circuit
             self.states[m:m + len(rows)] = rows
         return "answer " + shown(answer)
+
+    def on_block(self, circuit, room, set_it=True):
+        done = block(self.states, circuit, set_it, room)
+        if refused(done):
+            return done
+        notice, state = done
+        self.states[circuit] = state
+        return "answer " + shown(notice)
+
+    def on_unblock(self, circuit, room):
+        return self.on_block(circuit, room, set_it=False)
 
     def on_rows(self, first, last):
         return "rows " + shown(bytes(self.states[first:last + 1]))

@@ -38,12 +38,13 @@ use Rattle.velocity.specs.declared.Course.{Course}
 use Rattle.velocity.specs.Velocity.{codesOf, Stands, alone, beside, knownOf}
 use Rattle.hub.specs.Tables.{Tables, tables}
 use Rattle.hub.proofs.Called.{buffer-length}
+use Rattle.hub.proofs.Desk.{desk-buffer-length}
 use Rattle.words.specs.Said.{said}
 use Rattle.printing.specs.Sheet.{sheet, pour}
 use Rattle.printing.specs.Shown.{decimalIn, decimalOf, hexPairs, hexOf}
 use Rattle.printing.proofs.Pours.{pour-one, pour-append}
 use Rattle.requests.specs.Kinds.{FieldSays}
-use Rattle.requests.specs.Rows.{SHAPE, READ, WRITE, COMPACT, NUMBER, OWN, SET, ACT, VELOCITY, VELOCITY-LONG, VELOCITY-BACK, VELOCITY-BACK-LONG}
+use Rattle.requests.specs.Rows.{SHAPE, READ, WRITE, COMPACT, NUMBER, OWN, SET, ACT, BLOCK, UNBLOCK, VELOCITY, VELOCITY-LONG, VELOCITY-BACK, VELOCITY-BACK-LONG}
 use Rattle.requests.specs.Words.{Asked, asks, nothing, askedOf, numberAt, octetAt, octetsAt}
 use Rattle.requests.proofs.Sound.{Short, short}
 use Rattle.lines.specs.Lines.{counted, shown, refusal, faultLine, writtenLine, octetsLine, blank, lent}
@@ -54,8 +55,9 @@ use Rattle.number_lines.specs.Numbers.{signalsLine, numberLine, numbersLine}
 use Rattle.velocity_lines.specs.declared.Marked.{Marked}
 use Rattle.velocity_lines.specs.declared.Marked.the-variants.{Is, Not}
 use Rattle.velocity_lines.specs.Velocities.{typedMark, markWord, codesLine, codedLine, wholeIn, courseLine, knownLine, byValue, byMark, velocityLine, velocityLongLine, backLine, backLongLine, codeAt, velocitiesLine}
+use Rattle.block_lines.specs.Blocks.{noticeLine, blockDone}
 use Rattle.table_lines.specs.Tables.{Turn, turn, Left, left, leftBy, spread, rowsLine, tableTurn, replyLine, actsOf, actTurn}
-use Rattle.answers.specs.Turns.{badTurn, turnBy, turnFor, turnOf, turnIn, withLineEnd}
+use Rattle.answers.specs.Turns.{badTurn, blockTurn, turnBy, turnFor, turnOf, turnIn, withLineEnd}
 use Rattle.answers.proofs.Determined.{AnswersLine}
 
 -- ten digits at the most
@@ -150,6 +152,11 @@ module _ (most : ℕ) (m : List ℕ) (h : length m ≤ most) where
   unfolding replyLine
   reply-fits (accepted n) = omega (arith, shown-length "answer " (take n m) most (front-length m n most h))
   reply-fits (refused n at) = omega (arith, fault-length n at)
+
+  notice-fits : (x : Answer ℕ) → length (noticeLine x m) ≤ 2 * most + 100
+  unfolding noticeLine
+  notice-fits (accepted n) = omega (arith, shown-length "answer " (take n m) most (front-length m n most h))
+  notice-fits (refused n at) = omega (arith, counted-length "refused " n)
 
   signals-fit : (x : Answer Number) → length (signalsLine x m) ≤ 2 * most + 200
   unfolding signalsLine
@@ -302,23 +309,32 @@ module _ (T : Tables) (k : length (T .states) ≤ 4096) where
       let a = actsOf T gs in
       omega (arith, reply-fits 1024 (a .buffer) (omega (arith, lent-length (numberAt gs 2), buffer-length T (numberAt gs 0) (octetsAt gs 1) (lent (numberAt gs 2)))) (a .answer))
 
+  -- those that block from our side
+  block-fits : (which : ℕ) (gs : List FieldSays) → length (blockTurn T which gs .line) ≤ 40000
+  unfolding blockDone
+  block-fits which gs =
+      let a = blockDone (T .states) which gs in
+      omega (arith, notice-fits 1024 (a .buffer) (omega (arith, lent-length (numberAt gs 1), desk-buffer-length (T .states) (numberAt gs 0) (eqb which BLOCK) (lent (numberAt gs 1)))) (a .answer))
+
   -- whatever is asked
   asked-fits : (a : Asked) → Short a → length (turnFor T a .line) ≤ 40000
   unfolding turnBy
-  asked-fits (asks which gs) h = go (ltb which NUMBER) (ltb which OWN) (ltb which ACT) (eqb which ACT) (leb which VELOCITY-BACK-LONG)
+  asked-fits (asks which gs) h = go (ltb which NUMBER) (ltb which OWN) (ltb which ACT) (eqb which ACT) (leb which UNBLOCK) (leb which VELOCITY-BACK-LONG)
     where
-      go : (a b c d e : Bool) → length ((if a then turn T (codecLine which gs)
+      go : (a b c d u e : Bool) → length ((if a then turn T (codecLine which gs)
           else if b then turn T (numbersLine which gs)
           else if c then tableTurn T which gs
           else if d then actTurn T gs
+          else if u then blockTurn T which gs
           else if e then turn T (velocitiesLine which gs)
           else badTurn T) .line) ≤ 40000
-      go true b c d e = codec-fits which gs h
-      go false true c d e = numbers-fit which gs h
-      go false false true d e = table-fits which gs
-      go false false false true e = act-fits gs
-      go false false false false true = velocities-fit which gs
-      go false false false false false = omega arith
+      go true b c d u e = codec-fits which gs h
+      go false true c d u e = numbers-fit which gs h
+      go false false true d u e = table-fits which gs
+      go false false false true u e = act-fits gs
+      go false false false false true e = block-fits which gs
+      go false false false false false true = velocities-fit which gs
+      go false false false false false false = omega arith
   asked-fits nothing h = omega arith
 
 -- of every line

@@ -1,28 +1,37 @@
 -- What a line leaves as it was.
-use Prim.Native.Nat.{ℕ}
-use mathlib.Core.Path.{_≡_, refl, _∙_, ap}
+use Prim.Native.Nat.{ℕ, _≤_}
+use mathlib.Core.Path.{_≡_, refl, sym, _∙_, ap, subst}
 use mathlib.Core.Bool.{Bool, true, false}
 use mathlib.Core.List.{List}
-use borrow.Author.Tests.{eqb-true}
+use mathlib.Core.Logic.{⊎-elim}
+use native.Mathlib.Omega.{arith}
+use borrow.Author.Tests.{eqb-true, eqb-false, ltb-false, leb-true}
+use Rattle.octets.proofs.Choice.{decided}
 use lib.Dec.{ltb, leb, eqb}
 use Rattle.octets.specs.Answer.{refused}
 use Rattle.octets.specs.Choice.{if_then_else_}
 use Rattle.hub.specs.Tables.{Tables, tables, sized}
 use Rattle.hub.proofs.Called.{act-keeps}
+use Rattle.hub.proofs.Desk.{desk-keeps}
 use Rattle.words.specs.Said.{said}
 use Rattle.requests.specs.Kinds.{FieldSays}
-use Rattle.requests.specs.Rows.{NUMBER, OWN, SET, ACT, VELOCITY-BACK-LONG}
+use Rattle.requests.specs.Rows.{NUMBER, OWN, SET, ACT, BLOCK, UNBLOCK, VELOCITY-BACK-LONG}
 use Rattle.requests.specs.Words.{Asked, asks, nothing, askedOf, numberAt, octetAt, octetsAt}
 use Rattle.lines.specs.Lines.{refusal, lent}
 use Rattle.codec_lines.specs.Codec.{codecLine}
 use Rattle.number_lines.specs.Numbers.{numbersLine}
 use Rattle.velocity_lines.specs.Velocities.{velocitiesLine}
+use Rattle.block_lines.specs.Blocks.{blockDone}
 use Rattle.table_lines.specs.Tables.{Turn, turn, spread, rowsLine, tableTurn, actsOf, actTurn}
-use Rattle.answers.specs.Turns.{badTurn, turnBy, turnFor, turnOf}
+use Rattle.answers.specs.Turns.{badTurn, blockTurn, turnBy, turnFor, turnOf}
 
 -- an `act` that the hub refuses
 abbrev pub Refused : Tables → List FieldSays → Type 0
 Refused T gs = (n at : ℕ) × (actsOf T gs .answer ≡ refused n at)
+
+-- a `block` or `unblock` that is refused
+abbrev pub NotBlocked : Tables → ℕ → List FieldSays → Type 0
+NotBlocked T which gs = (n at : ℕ) × (blockDone (T .states) which gs .answer ≡ refused n at)
 
 module _ (T : Tables) (which : ℕ) (gs : List FieldSays) where
   -- of the requests of the tables, the choice of a row
@@ -54,38 +63,48 @@ module _ (T : Tables) (which : ℕ) (gs : List FieldSays) where
 
 module _ (T : Tables) (which : ℕ) (gs : List FieldSays) where
   -- the choice of a family
-  abbrev chosenFamily : Bool → Bool → Bool → Bool → Bool → Turn
-  chosenFamily a b c d v =
+  abbrev chosenFamily : Bool → Bool → Bool → Bool → Bool → Bool → Turn
+  chosenFamily a b c d u v =
       if a then turn T (codecLine which gs)
       else if b then turn T (numbersLine which gs)
       else if c then tableTurn T which gs
       else if d then actTurn T gs
+      else if u then blockTurn T which gs
       else if v then turn T (velocitiesLine which gs)
       else badTurn T
 
   owners-by : (which ≡ OWN → ⊥) → turnBy T which gs .tables .owners ≡ T .owners
   unfolding turnBy actTurn
-  owners-by h = go (ltb which NUMBER) (ltb which OWN) (ltb which ACT) (eqb which ACT) (leb which VELOCITY-BACK-LONG)
+  owners-by h = go (ltb which NUMBER) (ltb which OWN) (ltb which ACT) (eqb which ACT) (leb which UNBLOCK) (leb which VELOCITY-BACK-LONG)
     where
-      go : (a b c d v : Bool) → chosenFamily a b c d v .tables .owners ≡ T .owners
-      go true b c d v = refl
-      go false true c d v = refl
-      go false false true d v = table-owners T which gs h
-      go false false false true v = refl
-      go false false false false true = refl
-      go false false false false false = refl
+      go : (a b c d u v : Bool) → chosenFamily a b c d u v .tables .owners ≡ T .owners
+      go true b c d u v = refl
+      go false true c d u v = refl
+      go false false true d u v = table-owners T which gs h
+      go false false false true u v = refl
+      go false false false false true v = refl
+      go false false false false false true = refl
+      go false false false false false false = refl
 
-  states-by : (which ≡ SET → ⊥) → (which ≡ ACT → Refused T gs) → turnBy T which gs .tables .states ≡ T .states
+  -- a `block` or an `unblock` that is refused
+  block-states : (which ≡ BLOCK → NotBlocked T which gs) → (which ≡ UNBLOCK → NotBlocked T which gs) → 10 ≤ which → (which ≡ ACT → ⊥) → which ≤ 12 → blockTurn T which gs .tables .states ≡ T .states
+  unfolding blockDone
+  block-states p q l n h =
+      let f : NotBlocked T which gs = ⊎-elim (λ t. p (eqb-true which BLOCK t)) (λ t. let z = eqb-false which BLOCK t in q (omega (arith, z, n, l, h))) (decided (eqb which BLOCK)) in
+      desk-keeps (T .states) (numberAt gs 0) (eqb which BLOCK) (lent (numberAt gs 1)) (f .0) (f .1) (f .2) .0
+
+  states-by : (which ≡ SET → ⊥) → (which ≡ ACT → Refused T gs) → (which ≡ BLOCK → NotBlocked T which gs) → (which ≡ UNBLOCK → NotBlocked T which gs) → turnBy T which gs .tables .states ≡ T .states
   unfolding turnBy actTurn
-  states-by h r = go (ltb which NUMBER) (ltb which OWN) (ltb which ACT) (eqb which ACT) (leb which VELOCITY-BACK-LONG) refl
+  states-by h r p q = go (ltb which NUMBER) (ltb which OWN) (ltb which ACT) (eqb which ACT) (leb which UNBLOCK) (leb which VELOCITY-BACK-LONG) refl refl refl
     where
-      go : (a b c d v : Bool) → eqb which ACT ≡ d → chosenFamily a b c d v .tables .states ≡ T .states
-      go true b c d v e = refl
-      go false true c d v e = refl
-      go false false true d v e = table-states T which gs h
-      go false false false true v e = let f = r (eqb-true which ACT e) in act-keeps T (numberAt gs 0) (octetsAt gs 1) (lent (numberAt gs 2)) (f .0) (f .1) (f .2) .0
-      go false false false false true e = refl
-      go false false false false false e = refl
+      go : (a b c d u v : Bool) → ltb which ACT ≡ c → eqb which ACT ≡ d → leb which UNBLOCK ≡ u → chosenFamily a b c d u v .tables .states ≡ T .states
+      go true b c d u v f e g = refl
+      go false true c d u v f e g = refl
+      go false false true d u v f e g = table-states T which gs h
+      go false false false true u v f e g = let w = r (eqb-true which ACT e) in act-keeps T (numberAt gs 0) (octetsAt gs 1) (lent (numberAt gs 2)) (w .0) (w .1) (w .2) .0
+      go false false false false true v f e g = block-states p q (ltb-false which ACT f) (eqb-false which ACT e) (leb-true which UNBLOCK g)
+      go false false false false false true f e g = refl
+      go false false false false false false f e g = refl
 
 module _ (line : List ℕ) (T : Tables) where
   -- a line that is no request changes no table
@@ -107,12 +126,16 @@ module _ (line : List ℕ) (T : Tables) where
       go true nothing e = refl
       go false a e = refl
 
-  -- a row changes by `set`, or by an `act` that the hub does not refuse
-  pub states-kept : ((gs : List FieldSays) → askedOf line ≡ asks SET gs → ⊥) → ((gs : List FieldSays) → askedOf line ≡ asks ACT gs → Refused T gs) → turnOf line T .tables .states ≡ T .states
+  -- a row changes by `set`, by an `act` that the hub does not refuse, or by a `block` or an `unblock` that is not refused
+  pub states-kept : ((gs : List FieldSays) → askedOf line ≡ asks SET gs → ⊥) → ((gs : List FieldSays) → askedOf line ≡ asks ACT gs → Refused T gs)
+      → ((gs : List FieldSays) → askedOf line ≡ asks BLOCK gs → NotBlocked T BLOCK gs) → ((gs : List FieldSays) → askedOf line ≡ asks UNBLOCK gs → NotBlocked T UNBLOCK gs) → turnOf line T .tables .states ≡ T .states
   unfolding turnOf
-  states-kept h r = go (sized T) (askedOf line) refl
+  states-kept h r p q = go (sized T) (askedOf line) refl
     where
       go : (t : Bool) (a : Asked) → askedOf line ≡ a → (if t then turnFor T a else turn T (refusal 16)) .tables .states ≡ T .states
-      go true (asks which gs) e = states-by T which gs (λ w. h gs (e ∙ ap (λ (n : ℕ). asks n gs) w)) (λ w. r gs (e ∙ ap (λ (n : ℕ). asks n gs) w))
+      go true (asks which gs) e =
+          states-by T which gs (λ w. h gs (e ∙ ap (λ (n : ℕ). asks n gs) w)) (λ w. r gs (e ∙ ap (λ (n : ℕ). asks n gs) w))
+          (λ w. subst (λ (n : ℕ). NotBlocked T n gs) (sym w) (p gs (e ∙ ap (λ (n : ℕ). asks n gs) w)))
+          (λ w. subst (λ (n : ℕ). NotBlocked T n gs) (sym w) (q gs (e ∙ ap (λ (n : ℕ). asks n gs) w)))
       go true nothing e = refl
       go false a e = refl

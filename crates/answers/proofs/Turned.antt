@@ -20,8 +20,9 @@ use Rattle.lines.specs.Lines.{refusal}
 use Rattle.codec_lines.specs.Codec.{codecLine}
 use Rattle.number_lines.specs.Numbers.{numbersLine}
 use Rattle.velocity_lines.specs.Velocities.{velocitiesLine}
+use Rattle.block_lines.specs.Blocks.{blockDone}
 use Rattle.table_lines.specs.Tables.{turn, tableTurn, actTurn}
-use Rattle.answers.specs.Turns.{badTurn, turnBy, turnFor, turnOf, turnIn}
+use Rattle.answers.specs.Turns.{badTurn, blockTurn, turnBy, turnFor, turnOf, turnIn}
 
 module _ (T : Tables) (which : ℕ) (gs : List FieldSays) where
   -- a row of each family
@@ -41,25 +42,39 @@ module _ (T : Tables) (which : ℕ) (gs : List FieldSays) where
   unfolding turnBy
   turn-hub e = rw e refl
 
-  pub turn-velocities : 10 ≤ which → (which ≡ 10 → ⊥) → which ≤ 14 → turn T (velocitiesLine which gs) ≡ turnBy T which gs
+  pub turn-blocks : 10 ≤ which → (which ≡ 10 → ⊥) → which ≤ 12 → blockTurn T which gs ≡ turnBy T which gs
   unfolding turnBy
-  turn-velocities l n h =
+  turn-blocks l n h =
       let m : 5 ≤ which = omega arith in
       let k : 7 ≤ which = omega arith in
       rw (le-ltb _ _ m, le-ltb _ _ k, le-ltb _ _ l, ne-eqb _ _ n, le-leb _ _ h) refl
 
-  pub turn-none : (which ≡ 10 → ⊥) → 14 < which → badTurn T ≡ turnBy T which gs
+  pub turn-velocities : (which ≡ 10 → ⊥) → 12 < which → which ≤ 16 → turn T (velocitiesLine which gs) ≡ turnBy T which gs
+  unfolding turnBy
+  turn-velocities n b h =
+      let m : 5 ≤ which = omega arith in
+      let k : 7 ≤ which = omega arith in
+      let l : 10 ≤ which = omega arith in
+      rw (le-ltb _ _ m, le-ltb _ _ k, le-ltb _ _ l, ne-eqb _ _ n, lt-leb _ _ b, le-leb _ _ h) refl
+
+  pub turn-none : (which ≡ 10 → ⊥) → 16 < which → badTurn T ≡ turnBy T which gs
   unfolding turnBy
   turn-none n h =
       let m : 5 ≤ which = omega arith in
       let k : 7 ≤ which = omega arith in
       let l : 10 ≤ which = omega arith in
-      rw (le-ltb _ _ m, le-ltb _ _ k, le-ltb _ _ l, ne-eqb _ _ n, lt-leb _ _ h) refl
+      let b : 12 < which = omega arith in
+      rw (le-ltb _ _ m, le-ltb _ _ k, le-ltb _ _ l, ne-eqb _ _ n, lt-leb _ _ b, lt-leb _ _ h) refl
 
 -- the requests of the tables have no octets
 pub table-any : (T : Tables) (which : ℕ) (s t : List ℕ) (fs : List Field) → tableTurn T which (saidIn s fs) ≡ tableTurn T which (saidIn t fs)
 unfolding tableTurn
 table-any T which s t fs = rw (number-at s fs 0, number-at s fs 1, number-at s fs 2, number-at t fs 0, number-at t fs 1, number-at t fs 2) refl
+
+-- nor have those that block from our side
+pub block-any : (T : Tables) (which : ℕ) (s t : List ℕ) (fs : List Field) → blockTurn T which (saidIn s fs) ≡ blockTurn T which (saidIn t fs)
+unfolding blockDone
+block-any T which s t fs = rw (number-at s fs 0, number-at s fs 1, number-at t fs 0, number-at t fs 1) refl
 
 -- by the row alone
 says-turn : (T : Tables) (r : Request) (s : List ℕ) → turnBy T (r .which) (saidIn s (r .fields)) ≡ turnFor T (saysOf (taken r s))

@@ -3,16 +3,17 @@ use Prim.Native.Nat.{ℕ}
 use mathlib.Core.List.{List}
 use lib.Dec.{ltb, leb, eqb}
 use Rattle.octets.specs.Choice.{if_then_else_}
-use Rattle.hub.specs.Tables.{Tables, sized}
+use Rattle.hub.specs.Tables.{Tables, tables, sized}
 use Rattle.words.specs.Said.{said}
 use Rattle.printing.specs.Sheet.{put}
 use Rattle.requests.specs.Kinds.{FieldSays}
-use Rattle.requests.specs.Rows.{NUMBER, OWN, ACT, VELOCITY-BACK-LONG}
+use Rattle.requests.specs.Rows.{NUMBER, OWN, ACT, UNBLOCK, VELOCITY-BACK-LONG}
 use Rattle.requests.specs.Words.{Asked, asks, nothing, askedOf}
 use Rattle.lines.specs.Lines.{refusal}
 use Rattle.codec_lines.specs.Codec.{codecLine}
 use Rattle.number_lines.specs.Numbers.{numbersLine}
 use Rattle.velocity_lines.specs.Velocities.{velocitiesLine}
+use Rattle.block_lines.specs.Blocks.{noticeLine, blockDone}
 use Rattle.table_lines.specs.Tables.{Turn, turn, Left, left, tableTurn, actTurn}
 
 -- the octets of scratch that a line asks for: as many as half of its octets can be digits of, and nine more for each of eight words that are kept as they are typed
@@ -23,13 +24,20 @@ scratchLeast = 4168
 abbrev pub badTurn : Tables → Turn
 badTurn T = turn T (said "bad line")
 
--- a row of the table, by its family: the codec's stand before `number`, those for numbers before `own`, those of the tables before `act`, those for velocities after it
+-- what `block` and `unblock` leave
+abbrev pub blockTurn : Tables → ℕ → List FieldSays → Turn
+blockTurn T which gs =
+    let a = blockDone (T .states) which gs in
+    turn (tables (a .states) (T .owners)) (noticeLine (a .answer) (a .buffer))
+
+-- a row of the table, by its family: the codec's stand before `number`, those for numbers before `own`, those of the tables before `act`, then those that block from our side, then those for velocities
 unfoldable pub turnBy : Tables → ℕ → List FieldSays → Turn
 turnBy T which gs =
     if ltb which NUMBER then turn T (codecLine which gs)
     else if ltb which OWN then turn T (numbersLine which gs)
     else if ltb which ACT then tableTurn T which gs
     else if eqb which ACT then actTurn T gs
+    else if leb which UNBLOCK then blockTurn T which gs
     else if leb which VELOCITY-BACK-LONG then turn T (velocitiesLine which gs)
     else badTurn T
 

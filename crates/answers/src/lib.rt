@@ -10,6 +10,7 @@ use requests::ACT;
 use requests::NUMBER;
 use requests::OWN;
 use requests::Request;
+use requests::UNBLOCK;
 use requests::VELOCITY_BACK_LONG;
 
 // How many circuits there are, each with an octet in each table.
@@ -40,6 +41,9 @@ fn answer_request(
     }
     if request.which == ACT {
         return table_lines::act_turn(request, octets, states, owners, out);
+    }
+    if request.which <= UNBLOCK {
+        return block_lines::block_turn(request, states, out);
     }
     if request.which <= VELOCITY_BACK_LONG {
         return velocity_lines::velocities_line(request, octets, out);

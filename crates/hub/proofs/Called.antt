@@ -13,10 +13,13 @@ use Rattle.octets.specs.Answer.{Answer, accepted, refused}
 use Rattle.octets.specs.Filled.{filled}
 use Rattle.octets.proofs.Answer.{refused-accepted, accepted-same}
 use Rattle.octets.proofs.Choice.{decided}
+use Rattle.isup.specs.declared.Message.{Message}
+use Rattle.rows.specs.declared.Act.{Act}
+use Rattle.rows.specs.declared.Act.the-variants.{Seize, Release, Reset, Block, Unblock, ResetGroup, BlockGroup, UnblockGroup, Query}
 use Rattle.asks.specs.declared.Ask.{Ask}
 use Rattle.rows.specs.Rows.{rowOf}
-use Rattle.asks.specs.Asks.{markOf, askOf}
-use Rattle.asks.proofs.Reading.{ask-last}
+use Rattle.asks.specs.Asks.{askIn, markOf, askOf}
+use Rattle.asks.proofs.Reading.{asked-is, ask-read, ask-last}
 use Rattle.hub.specs.Tables.{Tables}
 use Rattle.hub.specs.Rights.{isMine}
 use Rattle.hub.specs.Rows.{effect, rowsAfter}
@@ -56,6 +59,27 @@ named-or a c =
     (λ u. inl (ltb-false c (a .circuit) t, ltb-false (a .circuit + a .range) c u))
     (decided (ltb (a .circuit + a .range) c)))
     (decided (ltb c (a .circuit)))
+
+-- ---- what is asked
+-- what is asked for by an act is that act
+pub act-of : (act : Act) (m : List ℕ) (x : Message) → askIn act m x .act ≡ act
+act-of Seize m x = refl
+act-of Release m x = refl
+act-of Reset m x = refl
+act-of Block m x = refl
+act-of Unblock m x = refl
+act-of ResetGroup m x = refl
+act-of BlockGroup m x = refl
+act-of UnblockGroup m x = refl
+act-of Query m x = refl
+
+-- IAM names one circuit
+pub seized-alone : (m : List ℕ) (a : Ask) → askOf m ≡ accepted a → a .act ≡ Seize → a .range ≡ 0
+seized-alone m a e s =
+    let r = ask-read m a e in
+    let w = asked-is m (r .0) a (r .2) in
+    let q : w .act ≡ Seize = sym (act-of (w .act) m (r .0)) ∙ ap (λ (b : Ask). b .act) (w .is) ∙ s in
+    sym (ap (λ (b : Ask). b .range) (ap (λ (k : Act). askIn k m (r .0)) (sym q) ∙ w .is))
 
 -- ---- a call
 module _ (T : Tables) (sender : ℕ) (m buffer : List ℕ) where

@@ -20,7 +20,7 @@ use Rattle.isup.specs.WellFormed.{WellFormed}
 use Rattle.isup.proofs.Exactly.{read-exactly}
 use Rattle.rows.specs.declared.Act.{Act}
 use Rattle.rows.specs.declared.Act.the-variants.{Seize, Release, Reset, Block, Unblock, ResetGroup, BlockGroup, UnblockGroup, Query}
-use Rattle.rows.specs.Rows.{isLegal}
+use Rattle.rows.specs.Rows.{local, isLegal}
 use Rattle.rows.proofs.Legality.{legal-is, is-legal}
 use Rattle.asks.specs.declared.Ask.{Ask}
 use Rattle.isup.specs.Types.{IAM, REL, RSC, BLO, UBL, GRS, CGB, CGU, CQM}
@@ -69,17 +69,17 @@ module _ (states m : List ℕ) (x : Message) where
   taken-cases a k = subst (λ (b : Ask). Settles (isTaken states (b .act) (b .circuit))) (k .2) (taken-by (k .0) (type-is (x .kind) (k .0) (k .1)))
 
 -- ---- the answer's length, by the type
-size-by : (m : List ℕ) (x : Message) (r : ℕ) (act : Act) → x .kind ≡ typeOf act → replyLength (askIn act m x .act) r ≡ answerSize (x .kind) r
+size-by : (m : List ℕ) (x : Message) (r row : ℕ) (act : Act) → x .kind ≡ typeOf act → replyLength (askIn act m x .act) r row ≡ answerSize (x .kind) r row
 unfolding replyLength
-size-by m x r Seize e = rw e refl
-size-by m x r Release e = rw e refl
-size-by m x r Reset e = rw e refl
-size-by m x r Block e = rw e refl
-size-by m x r Unblock e = rw e refl
-size-by m x r ResetGroup e = rw e refl
-size-by m x r BlockGroup e = rw e refl
-size-by m x r UnblockGroup e = rw e refl
-size-by m x r Query e = rw e refl
+size-by m x r row Seize e = rw e refl
+size-by m x r row Release e = rw e refl
+size-by m x r row Reset e = rw e refl
+size-by m x r row Block e = rw e refl
+size-by m x r row Unblock e = rw e refl
+size-by m x r row ResetGroup e = rw e refl
+size-by m x r row BlockGroup e = rw e refl
+size-by m x r row UnblockGroup e = rw e refl
+size-by m x r row Query e = rw e refl
 
 -- ---- what is allowed
 module _ (T : Tables) (sender : ℕ) (m : List ℕ) (room : ℕ) (x : Message) (f : WellFormed m x) (a : Ask) (k : IsAsked m x a) where
@@ -94,12 +94,13 @@ module _ (T : Tables) (sender : ℕ) (m : List ℕ) (room : ℕ) (x : Message) (
   so-named c w = (omega (arith, names .0, w .0), omega (arith, names .0, names .1, w .1))
 
   -- and is answered by as many octets as the message says
-  reply-size : length (replyOf (T .states) m a) ≡ answerSize (x .kind) (rangeGiven m x)
+  reply-size : length (replyOf (T .states) m a) ≡ answerSize (x .kind) (rangeGiven m x) (octet (T .states) (x .circuit))
   reply-size =
+      let row = octet (T .states) (x .circuit) in
       length-reply (T .states) m a
-      ∙ ap (replyLength (a .act)) (names .1)
-      ∙ subst (λ (b : Ask). replyLength (b .act) (rangeGiven m x) ≡ answerSize (x .kind) (rangeGiven m x)) (k .2)
-      (size-by m x (rangeGiven m x) (k .0) (type-is (x .kind) (k .0) (k .1)))
+      ∙ (λ i. replyLength (a .act) (names .1 i) (octet (T .states) (names .0 i)))
+      ∙ subst (λ (b : Ask). replyLength (b .act) (rangeGiven m x) row ≡ answerSize (x .kind) (rangeGiven m x) row) (k .2)
+      (size-by m x (rangeGiven m x) row (k .0) (type-is (x .kind) (k .0) (k .1)))
 
   permitted-judges : Judges (permittedOf T sender a)
       (fault 19 0 (Reads m (Foreign (T .owners) sender m)) ∷ fault 20 0 (Reads m (Illegal (T .states) m)) ∷ fault 21 0 (Reads m (Taken (T .states))) ∷ [])
@@ -133,22 +134,22 @@ module _ (T : Tables) (sender : ℕ) (m : List ℕ) (room : ℕ) (x : Message) (
       (λ v h. taken-cases (T .states) m x a k .1 v (of-reads m x f (Taken (T .states)) h))
       (λ v. judges-done a)))
 
-  roomed-judges : Judges (roomed T m room a) (fault 13 0 (Reads m (NoRoom m room)) ∷ [])
+  roomed-judges : Judges (roomed T m room a) (fault 13 0 (Reads m (NoRoom (T .states) m room)) ∷ [])
   roomed-judges =
       judges-if (ltb room (length (replyOf (T .states) m a)))
       (λ w. (x, f, omega (arith, ltb-true room (length (replyOf (T .states) m a)) w, reply-size)))
-      (λ w h. omega (arith, of-reads m x f (NoRoom m room) h, ltb-false room (length (replyOf (T .states) m a)) w, reply-size))
+      (λ w h. omega (arith, of-reads m x f (NoRoom (T .states) m room) h, ltb-false room (length (replyOf (T .states) m a)) w, reply-size))
       (λ w. judges-done a)
 
   allowed-judges : Judges (allowedOf T sender m room a)
-      (fault 19 0 (Reads m (Foreign (T .owners) sender m)) ∷ fault 20 0 (Reads m (Illegal (T .states) m)) ∷ fault 21 0 (Reads m (Taken (T .states))) ∷ fault 13 0 (Reads m (NoRoom m room)) ∷ [])
+      (fault 19 0 (Reads m (Foreign (T .owners) sender m)) ∷ fault 20 0 (Reads m (Illegal (T .states) m)) ∷ fault 21 0 (Reads m (Taken (T .states))) ∷ fault 13 0 (Reads m (NoRoom (T .states) m room)) ∷ [])
   unfolding allowedOf
   allowed-judges =
       judges-then (permittedOf T sender a) (roomed T m room)
       (fault 19 0 (Reads m (Foreign (T .owners) sender m)) ∷ fault 20 0 (Reads m (Illegal (T .states) m)) ∷ fault 21 0 (Reads m (Taken (T .states))) ∷ [])
-      (fault 13 0 (Reads m (NoRoom m room)) ∷ [])
+      (fault 13 0 (Reads m (NoRoom (T .states) m room)) ∷ [])
       permitted-judges
-      (λ b e. subst (λ (y : Ask). Judges (roomed T m room y) (fault 13 0 (Reads m (NoRoom m room)) ∷ [])) (permitted T sender a b e .0) roomed-judges)
+      (λ b e. subst (λ (y : Ask). Judges (roomed T m room y) (fault 13 0 (Reads m (NoRoom (T .states) m room)) ∷ [])) (permitted T sender a b e .0) roomed-judges)
 
 -- a call is refused with the first of its faults, with the octet that it is about, and accepted exactly where there is none
 pub act-judges : (T : Tables) (sender : ℕ) (m : List ℕ) (room : ℕ) → Judges (grantOf T sender m room) (actFaults T sender m room)
@@ -177,7 +178,7 @@ act-judges T sender m room =
         go false p h = inl (eqb-false _ _ p)
 
     asked : (a : Ask) → askOf m ≡ accepted a → Judges (allowedOf T sender m room a)
-        (fault 19 0 (Reads m (Foreign (T .owners) sender m)) ∷ fault 20 0 (Reads m (Illegal (T .states) m)) ∷ fault 21 0 (Reads m (Taken (T .states))) ∷ fault 13 0 (Reads m (NoRoom m room)) ∷ [])
+        (fault 19 0 (Reads m (Foreign (T .owners) sender m)) ∷ fault 20 0 (Reads m (Illegal (T .states) m)) ∷ fault 21 0 (Reads m (Taken (T .states))) ∷ fault 13 0 (Reads m (NoRoom (T .states) m room)) ∷ [])
     asked a e =
         let r = ask-read m a e in
         let w = asked-is m (r .0) a (r .2) in
@@ -206,3 +207,7 @@ module _ (T : Tables) (sender : ℕ) (m buffer : List ℕ) where
       let j = act-judges T sender m (length buffer) in
       let w = accepts (grantOf T sender m (length buffer)) in
       (λ e. j .accepts .0 (w .0 e), λ h. w .1 (j .accepts .1 h))
+
+-- IAM on a circuit that we blocked is 21's case: a row with the 8 is not 0
+pub iam-locked : (states : List ℕ) (x : Message) → x .kind ≡ IAM → local (octet states (x .circuit)) ≡ 1 → Taken states x
+iam-locked states x e h = (e, λ z. let k : local (octet states (x .circuit)) ≡ 0 = ap local z in omega (arith, h, k))

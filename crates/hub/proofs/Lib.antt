@@ -7,6 +7,7 @@ pub mod Places
 pub mod Called
 pub mod Determined
 pub mod Local
+pub mod Desk
 pub mod Legality
 pub mod Rules
 pub mod Spare

@@ -15,6 +15,7 @@ use Rattle.rows.specs.declared.Act.{Act}
 use Rattle.rows.specs.declared.Act.the-variants.{Seize, Release, Reset, Block, Unblock, ResetGroup, BlockGroup, UnblockGroup, Query}
 use Rattle.rows.specs.Rows.{isLegal}
 use Rattle.asks.specs.declared.Ask.{Ask}
+use Rattle.replies.specs.Replies.{replyLength}
 use Rattle.hub.specs.Tables.{Tables}
 use Rattle.asks.specs.Asks.{askOf}
 use Rattle.hub.specs.Rights.{isMine, firstForeign, firstIllegal, isFound}
@@ -24,7 +25,7 @@ use Rattle.hub.specs.Acts.{isTaken, permittedOf, roomed, allowedOf, gran
 use Rattle.hub.specs.Names.{Named, Names}
 use Rattle.hub.proofs.Meaning.{search-same}
 use Rattle.hub.proofs.Writing.{length-reply, reply-alike}
-use Rattle.hub.proofs.Given.{granted, grant-sized}
+use Rattle.hub.proofs.Given.{permitted, granted, grant-sized}
 use Rattle.hub.proofs.Called.{row-inside, asks-so, reaches}
 
 -- the two pairs of tables agree on the circuits that the message names
@@ -44,9 +45,11 @@ taken-same s t UnblockGroup c e = refl
 taken-same s t Query c e = refl
 
 module _ (T U : Tables) (sender : ℕ) (m : List ℕ) where
-  -- whether there is room does not depend on the rows
-  roomed-same : (room : ℕ) (a : Ask) → roomed T m room a ≡ roomed U m room a
-  roomed-same room a = ap (λ (n : ℕ). if ltb room n then refused 13 0 else accepted a) (length-reply (T .states) m a ∙ sym (length-reply (U .states) m a))
+  -- whether there is room depends on the row of the first named circuit alone
+  roomed-same : (room : ℕ) (a : Ask) → octet (T .states) (a .circuit) ≡ octet (U .states) (a .circuit) → roomed T m room a ≡ roomed U m room a
+  roomed-same room a e =
+      ap (λ (n : ℕ). if ltb room n then refused 13 0 else accepted a)
+      (length-reply (T .states) m a ∙ ap (replyLength (a .act) (a .range)) e ∙ sym (length-reply (U .states) m a))
 
   -- the checks look at the named rows alone
   pub allowed-same : (room : ℕ) (a : Ask) → ((c : ℕ) → Named a c → (octet (T .states) c ≡ octet (U .states) c) × (octet (T .owners) c ≡ octet (U .owners) c)) → allowedOf T sender m room a ≡ allowedOf U sender m room a
@@ -66,7 +69,7 @@ module _ (T U : Tables) (sender : ℕ) (m : List ℕ) where
       else if isFound (l i) then refused 20 0
       else if t i then refused 21 0
       else accepted a)
-      (λ b e. roomed-same room b)
+      (λ b e. let s : a ≡ b = permitted T sender a b e .0 in roomed-same room b (subst (λ (y : Ask). octet (T .states) (y .circuit) ≡ octet (U .states) (y .circuit)) s (h (a .circuit) (omega arith, omega arith) .0)))
 
   module _ (p : length (T .states) ≡ 4096) (p′ : length (U .states) ≡ 4096) (q : length (T .owners) ≡ 4096) (q′ : length (U .owners) ≡ 4096) (agree : AgreeOn m T U) where
     grant-same : (room : ℕ) → grantOf T sender m room ≡ grantOf U sender m room

@@ -17,7 +17,7 @@ use Rattle.isup.specs.Table.{shapeOf}
 use Rattle.isup.specs.Read.{readOf}
 use Rattle.asks.specs.declared.Ask.{Ask}
 use Rattle.rows.specs.declared.Act.the-variants.{Seize, Block, Query}
-use Rattle.rows.specs.Rows.{isLegal, blockedRow, changedRow}
+use Rattle.rows.specs.Rows.{isLegal, blockedRow, changedRow, localRow}
 use Rattle.isup.specs.Types.{IAM, BLO, CQM}
 use Rattle.asks.specs.Types.{actFor}
 use Rattle.asks.specs.Asks.{oneAsk, rangeAsk, brokenRange, askedIn, askOf, markOf}
@@ -27,12 +27,13 @@ use Rattle.hub.specs.Tables.{Tables, tables, sized}
 use Rattle.hub.specs.Rights.{firstNot, firstForeign, firstIllegal, isFound}
 use Rattle.octets.specs.Applied.{applied}
 use Rattle.hub.specs.Rows.{rowsAfter}
-use Rattle.replies.specs.Replies.{statesFrom}
 use Rattle.hub.specs.Replies.{statusIn, replyOf}
-use Rattle.hub.specs.Arrival.{Call, Reply, holdsOf}
+use Rattle.hub.specs.Desk.{rowsBlocked, deskOf}
+use Rattle.hub.specs.Arrival.{Event, heard, ours, Call, partyOf, Reply, replied, holdsOf}
 use Rattle.hub.specs.Acts.{isTaken, permittedOf, allowedOf, grantOf, After, after, carriedOut, actOf}
 use Rattle.hub.proofs.Given.{grant-sized}
 use Rattle.hub.proofs.Called.{act-keeps}
+use Rattle.hub.proofs.Desk.{desk-keeps}
 use Rattle.hub.proofs.Orders.{holds-is}
 
 -- BLO for circuit 0
@@ -83,6 +84,14 @@ marked-before-13 e =
     let z : _≡_ {A = ℕ} 2 0 = ap (λ (l : List ℕ). octet l 0) (ap (λ (r : After). r .states) w ∙ k) in
     omega arith
 
+-- ---- the same of a desk call: the row is blocked, and then the buffer is found too short
+pub desk-marked-before-13 : after (refused 13 0) (rowsBlocked true 0 (rows 0)) [] ≡ deskOf (rows 0) 0 true [] → ⊥
+unfolding applied localRow
+desk-marked-before-13 e =
+    let k = desk-keeps (rows 0) 0 true [] 13 0 (sym (ap (λ (r : After). r .answer) e)) .0 in
+    let z : _≡_ {A = ℕ} 8 0 = ap (λ (l : List ℕ). octet l 0) (ap (λ (r : After). r .states) e ∙ k) in
+    omega arith
+
 -- ---- a hub that acknowledges and touches nothing: BLO for circuit 0 leaves its row blocked, and not as it was
 pub touches-nothing-refuted : rowsAfter block (oneAsk Block 0) (rows 0) ≡ rows 0 → ⊥
 unfolding applied changedRow blockedRow markOf
@@ -129,7 +138,7 @@ query-asks = refl
 
 -- the sender's row is not legal: a hub that does not look answers with a state that no circuit has, and the definition gives 20
 pub illegal-untold : (askOf query then unlooked (lent 5 1) 1 query 268) ≡ grantOf (lent 5 1) 1 query 268 → ⊥
-unfolding allowedOf permittedOf firstNot isLegal replyOf statusIn statesFrom
+unfolding allowedOf permittedOf firstNot isLegal replyOf statusIn
 illegal-untold e =
     let r : accepted (rangeAsk query Query 0 (span 5 6)) ≡ refused 20 0 =
     ap (λ z. z then unlooked (lent 5 1) 1 query 268) (sym query-asks)
@@ -146,6 +155,11 @@ grantBy allowed T sender m room = if sized T then (askOf m then allowed T sender
 abbrev actBy : (Tables → ℕ → List ℕ → ℕ → Ask → Answer Ask) → Tables → ℕ → List ℕ → List ℕ → After
 actBy allowed T sender m buffer = carriedOut T m buffer (grantBy allowed T sender m (length buffer))
 
+-- what such a hub does
+abbrev doneIn : (Tables → ℕ → List ℕ → ℕ → Ask → Answer Ask) → List ℕ → Event → List ℕ → List ℕ → After
+doneIn allowed owners (heard sender message) buffer states = actBy allowed (tables states owners) sender message buffer
+doneIn allowed owners (ours circuit set) buffer states = deskOf states circuit set buffer
+
 abbrev hubBy : (Tables → ℕ → List ℕ → ℕ → Ask → Answer Ask) → List ℕ → Calls
 hubBy allowed owners =
     record {
@@ -155,10 +169,10 @@ hubBy allowed owners =
       Reply = Reply;
       sizes = λ s. length s ∷ [];
       row = λ s i. octet s i;
-      party = λ c. c .sender;
+      party = λ c. partyOf owners (c .asks);
       holds = holdsOf owners;
-      answer = λ c s. (let r = actBy allowed (tables s owners) (c .sender) (c .message) (c .buffer) in record { answer = r .answer; buffer = r .buffer });
-      after = λ c s. actBy allowed (tables s owners) (c .sender) (c .message) (c .buffer) .states;
+      answer = λ c s. replied (doneIn allowed owners (c .asks) (c .buffer) s);
+      after = λ c s. doneIn allowed owners (c .asks) (c .buffer) s .states;
     }
 
 -- what such a hub grants on tables of the right length
@@ -178,7 +192,7 @@ holds-none i e =
 pub sees-a-stranger : Apart (hubBy legalFirst (owned 2)) → ⊥
 unfolding firstNot isLegal
 sees-a-stranger A =
-    let c : Call = record { sender = 1; message = block; buffer = [] } in
+    let c : Call = record { asks = heard 1 block; buffer = [] } in
     let y = A .sees c (rows 0) (rows 5) (ap (λ (n : ℕ). n ∷ []) (rows-sized 0 ∙ sym (rows-sized 5)), λ i h. absurd (holds-none i h)) .0 in
     let p = granted-by legalFirst (lent 0 2) 1 block 0 (oneAsk Block 0) (rows-sized 0) (owned-sized 2) block-asks in
     let q = granted-by legalFirst (lent 5 2) 1 block 0 (oneAsk Block 0) (rows-sized 5) (owned-sized 2) block-asks in
@@ -205,7 +219,7 @@ seize-asks = refl
 
 -- both senders seize circuit 0, which is sender 2's
 abbrev seizedBy : ℕ → Call
-seizedBy sender = record { sender = sender; message = seize; buffer = [] }
+seizedBy sender = record { asks = heard sender seize; buffer = [] }
 
 abbrev hurried : Calls
 hurried = hubBy takenFirst (owned 2)

@@ -6,9 +6,9 @@ use mathlib.Core.List.{List, [], _∷_}
 use mathlib.Core.Logic.{_⊎_, inl, inr, ⊎-elim}
 use native.Mathlib.Omega.{arith}
 use native.Mathlib.Nat.{add-zero, zero-add}
-use borrow.Author.Tests.{ne-eqb, eqb-true, ltb-true, ltb-false, not-false}
+use borrow.Author.Tests.{eq-eqb, ne-eqb, eqb-true, ltb-true, ltb-false, not-false}
 use lib.Dec.{eqb, ltb}
-use lib.ListN.{length, replicate}
+use lib.ListN.{length}
 use Rattle.octets.specs.Choice.{if_then_else_}
 use Rattle.octets.specs.Octet.{octet, octets}
 use Rattle.octets.specs.Filled.{filled}
@@ -18,12 +18,12 @@ use Rattle.octets.proofs.Choice.{decided}
 use Rattle.octets.proofs.Octet.{octets-octet}
 use Rattle.rows.specs.declared.Act.{Act}
 use Rattle.rows.specs.declared.Act.the-variants.{Seize, Release, Reset, Block, Unblock, ResetGroup, BlockGroup, UnblockGroup, Query}
-use Rattle.rows.specs.Rows.{isLegal, changedRow, rowOf, circuitState}
+use Rattle.rows.specs.Rows.{local, isLegal, changedRow, rowOf, circuitState}
 use Rattle.rows.specs.Rules.{Seized, Released, Cleared, BlockedForMaintenance, UnblockedForMaintenance, BlockedForHardware, UnblockedForHardware}
 use Rattle.rows.specs.States.{SaysOfRow}
 use Rattle.rows.proofs.Legality.{legal-is}
 use Rattle.rows.proofs.States.{circuit-state-says}
-use Rattle.rows.proofs.Rules.{released, blocked-maintenance, unblocked-maintenance, blocked-hardware, unblocked-hardware}
+use Rattle.rows.proofs.Rules.{released, was-cleared, blocked-maintenance, unblocked-maintenance, blocked-hardware, unblocked-hardware}
 use Rattle.asks.specs.declared.Ask.{Ask}
 use Rattle.isup.specs.Types.{IAM, REL, RLC, RSC, BLO, UBL, BLA, UBA, GRS, CGB, CGU, CGBA, CGUA, GRA, CQM, CQR}
 use Rattle.asks.specs.Types.{typeOf}
@@ -34,9 +34,9 @@ use Rattle.asks.proofs.Marks.{marks-counted}
 use Rattle.asks.proofs.Reading.{Asked, ask-as, range-rule, WholeGroup, whole-group}
 use Rattle.hub.specs.Tables.{Tables}
 use Rattle.hub.specs.Rights.{firstIllegal, isFound}
-use Rattle.replies.specs.Replies.{statusFrom, statesFrom, rangeAndStatus}
-use Rattle.replies.specs.Rules.{Marks, States}
-use Rattle.replies.proofs.Status.{status-marks, no-status, states-shown}
+use Rattle.replies.specs.Replies.{statusGiven, statusLocked, statesFrom, rangeAndStatus, completion}
+use Rattle.replies.specs.Rules.{Marks, Locks, States}
+use Rattle.replies.proofs.Status.{status-marks, locks-shown, states-shown}
 use Rattle.hub.specs.Rows.{rowsAfter}
 use Rattle.hub.specs.Replies.{statusIn, replyOf}
 use Rattle.hub.specs.Acts.{isTaken, actOf}
@@ -51,6 +51,14 @@ unfolding bitAt
 marks-in m from range status k = record {
   wide = k .wide;
   marks = λ i h. k .marks i h ∙ ap (λ (o : ℕ). eqb (o / 2 ^ (i % 8) % 2) 1) (ap (octet (octets m from (width range))) (zero-add (i / 8)) ∙ octets-octet m from (width range) (i / 8) (omega arith));
+  spare = k .spare;
+}
+
+-- the 8s of a stretch of the rows are those of the rows
+locks-in : (rows : List ℕ) (circuit range : ℕ) (status : List ℕ) → Locks (octets rows circuit (range + 1)) 0 range status → Locks rows circuit range status
+locks-in rows circuit range status k = record {
+  wide = k .wide;
+  locks = λ i h. k .locks i h ∙ ap (λ (o : ℕ). eqb (local o) 1) (ap (octet (octets rows circuit (range + 1))) (zero-add i) ∙ octets-octet rows circuit (range + 1) i (omega arith));
   spare = k .spare;
 }
 
@@ -127,13 +135,19 @@ module _ (T : Tables) (sender : ℕ) (m buffer : List ℕ) (x : Message) (n : �
       let q = asks Release e in
       (changes a q Released (λ i l. released _), answers a q _ refl)
 
-  -- RSC: state 0; answer RLC without optional part
-  pub rsc-rule : x .kind ≡ RSC → Changes (T .states) (actOf T sender m buffer .states) (x .circuit) 0 every Cleared × Answers buffer (actOf T sender m buffer .buffer) n ((x .circuit % 256) ∷ (x .circuit / 256) ∷ RLC ∷ 0 ∷ [])
+  -- RSC: state 0 but for the 8, which is kept; answer RLC without optional part, and where the 8 is set BLO followed by RLC, seven octets
+  pub rsc-rule : x .kind ≡ RSC → Changes (T .states) (actOf T sender m buffer .states) (x .circuit) 0 every Cleared
+      × (local (octet (T .states) (x .circuit)) ≡ 0 → Answers buffer (actOf T sender m buffer .buffer) n ((x .circuit % 256) ∷ (x .circuit / 256) ∷ RLC ∷ 0 ∷ []))
+      × (local (octet (T .states) (x .circuit)) ≡ 1 → Answers buffer (actOf T sender m buffer .buffer) n ((x .circuit % 256) ∷ (x .circuit / 256) ∷ BLO ∷ (x .circuit % 256) ∷ (x .circuit / 256) ∷ RLC ∷ 0 ∷ []))
   unfolding markOf changedRow replyOf
   rsc-rule e =
       let a : Ask = oneAsk Reset (x .circuit) in
       let q = asks Reset e in
-      (changes a q Cleared (λ i l. refl), answers a q _ refl)
+      let row : octet (octets (T .states) (x .circuit) 1) 0 ≡ octet (T .states) (x .circuit) = octets-octet (T .states) (x .circuit) 1 0 (omega arith) ∙ ap (octet (T .states)) (add-zero (x .circuit)) in (
+        changes a q Cleared (λ i l. was-cleared _),
+        (λ z. answers a q ((x .circuit % 256) ∷ (x .circuit / 256) ∷ RLC ∷ 0 ∷ []) (ap (completion (x .circuit)) row ∙ rw (ne-eqb (local (octet (T .states) (x .circuit))) 1 (λ o. omega (arith, z, o))) refl)),
+        (λ z. answers a q ((x .circuit % 256) ∷ (x .circuit / 256) ∷ BLO ∷ (x .circuit % 256) ∷ (x .circuit / 256) ∷ RLC ∷ 0 ∷ []) (ap (completion (x .circuit)) row ∙ rw (eq-eqb (local (octet (T .states) (x .circuit))) 1 z) refl)),
+      )
 
   -- BLO: set the 2; answer BLA
   pub blo-rule : x .kind ≡ BLO → Changes (T .states) (actOf T sender m buffer .states) (x .circuit) 0 every BlockedForMaintenance × Answers buffer (actOf T sender m buffer .buffer) n ((x .circuit % 256) ∷ (x .circuit / 256) ∷ BLA ∷ [])
@@ -151,17 +165,25 @@ module _ (T : Tables) (sender : ℕ) (m buffer : List ℕ) (x : Message) (n : �
       let q = asks Unblock e in
       (changes a q UnblockedForMaintenance (λ i l. unblocked-maintenance _), answers a q _ refl)
 
-  -- GRS: circuits m to m+r get state 0; answer GRA: r, then r/8+1 zero octets
+  -- GRS: circuits m to m+r get state 0 but for the 8, which is kept; answer GRA: r, then r/8+1 octets, whose bit i is 1 exactly where circuit m+i is locally blocked, spare bits 0
   pub grs-rule : x .kind ≡ GRS →
       let r = rangeIn m (x .parts .first) in
       Changes (T .states) (actOf T sender m buffer .states) (x .circuit) r every Cleared
-      × Answers buffer (actOf T sender m buffer .buffer) n ((x .circuit % 256) ∷ (x .circuit / 256) ∷ GRA ∷ 1 ∷ (1 + width r) ∷ r ∷ replicate (width r) 0)
-  unfolding markOf changedRow replyOf statusIn
+      × ((status : List ℕ)
+      × Locks (T .states) (x .circuit) r status
+      × Answers buffer (actOf T sender m buffer .buffer) n ((x .circuit % 256) ∷ (x .circuit / 256) ∷ GRA ∷ 1 ∷ (1 + width r) ∷ r ∷ status))
+  unfolding markOf changedRow replyOf
   grs-rule e =
+      let r = rangeIn m (x .parts .first) in
       let a : Ask = rangeAsk m ResetGroup (x .circuit) (x .parts .first) in
-      let q = asks ResetGroup e in (
-        changes a q Cleared (λ i l. refl),
-        answers a q _ (ap (λ (l : List ℕ). (x .circuit % 256) ∷ (x .circuit / 256) ∷ GRA ∷ 1 ∷ (1 + width (rangeIn m (x .parts .first))) ∷ rangeIn m (x .parts .first) ∷ l) (no-status (rangeIn m (x .parts .first)) 0 (width (rangeIn m (x .parts .first))))),
+      let q = asks ResetGroup e in
+      let group = octets (T .states) (x .circuit) (r + 1) in (
+        changes a q Cleared (λ i l. was-cleared _),
+        (
+          statusLocked r group,
+          locks-in (T .states) (x .circuit) r _ (locks-shown r group),
+          answers a q _ refl,
+        ),
       )
 
   -- the rows of a group, marked by the status after the range
@@ -178,16 +200,16 @@ module _ (T : Tables) (sender : ℕ) (m buffer : List ℕ) (x : Message) (n : �
       }
 
   -- the answer to a group: indicator, range and status, spare bits 0
-  group-answers : (act : Act) (type indicator : ℕ) → called .ask ≡ groupAsk m act (x .circuit) indicator (x .parts .first) → replyOf (T .states) m (groupAsk m act (x .circuit) indicator (x .parts .first)) ≡ (x .circuit % 256) ∷ (x .circuit / 256) ∷ type ∷ blockKind indicator ∷ rangeAndStatus (rangeIn m (x .parts .first)) (statusIn m (x .parts .first .from + 1) (rangeIn m (x .parts .first)))
+  group-answers : (act : Act) (type indicator : ℕ) → called .ask ≡ groupAsk m act (x .circuit) indicator (x .parts .first) → replyOf (T .states) m (groupAsk m act (x .circuit) indicator (x .parts .first)) ≡ (x .circuit % 256) ∷ (x .circuit / 256) ∷ type ∷ blockKind indicator ∷ rangeAndStatus (rangeIn m (x .parts .first)) (statusGiven (rangeIn m (x .parts .first)) (statusIn m (x .parts .first .from + 1) (rangeIn m (x .parts .first))))
       → Acknowledges buffer (actOf T sender m buffer .buffer) n m x type (blockKind indicator)
   unfolding statusIn
   group-answers act type indicator q e =
       let a : Ask = groupAsk m act (x .circuit) indicator (x .parts .first) in
       let r = rangeIn m (x .parts .first) in
       let s : statusIn m (x .parts .first .from + 1) r ≡ octets m (x .parts .first .from + 1) (width r) = rw (ne-eqb (x .parts .first .from + 1) 0 (λ z. omega arith)) in (
-        statusFrom r (octets m (x .parts .first .from + 1) (width r)) 0 (width r),
+        statusGiven r (octets m (x .parts .first .from + 1) (width r)),
         marks-in m (x .parts .first .from + 1) r _ (status-marks r (octets m (x .parts .first .from + 1) (width r))),
-        answers a q _ (e ∙ ap (λ (l : List ℕ). (x .circuit % 256) ∷ (x .circuit / 256) ∷ type ∷ blockKind indicator ∷ rangeAndStatus r l) s),
+        answers a q _ (e ∙ ap (λ (l : List ℕ). (x .circuit % 256) ∷ (x .circuit / 256) ∷ type ∷ blockKind indicator ∷ rangeAndStatus r (statusGiven r l)) s),
       )
 
   -- CGB for maintenance: the 2 is set on marked circuits; answer CGBA

@@ -18,7 +18,6 @@ use Rattle.octets.proofs.Octet.{octets-octet}
 use Rattle.octets.proofs.Applied.{applied-alike}
 use Rattle.isup.specs.declared.Message.{Message}
 use Rattle.isup.proofs.Exactly.{read-exactly}
-use Rattle.marks.specs.Marks.{cutTo}
 use Rattle.rows.specs.declared.Act.{Act}
 use Rattle.rows.specs.declared.Act.the-variants.{BlockGroup, UnblockGroup}
 use Rattle.rows.specs.Rows.{rowOf}
@@ -28,7 +27,7 @@ use Rattle.asks.specs.Spare.{SpareAlike}
 use Rattle.asks.proofs.Types.{for-type}
 use Rattle.asks.proofs.Reading.{ask-as}
 use Rattle.asks.proofs.Marks.{mark-alike, ask-alike}
-use Rattle.replies.specs.Replies.{statusOctet}
+use Rattle.marks.specs.Marks.{cutTo, statusOctet}
 use Rattle.replies.proofs.Spare.{answer-alike}
 use Rattle.hub.specs.Tables.{Tables, sized}
 use Rattle.hub.specs.Rows.{effect, rowsAfter}

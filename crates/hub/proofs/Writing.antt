@@ -4,12 +4,12 @@ use mathlib.Core.Path.{_≡_, refl, _∙_, ap}
 use mathlib.Core.Bool.{Bool, true, false}
 use mathlib.Core.List.{List}
 use native.Mathlib.Omega.{arith}
-use native.Mathlib.Nat.{add-sub-cancel-left}
+use native.Mathlib.Nat.{add-zero, add-sub-cancel-left}
 use lib.ListN.{length, getD, set}
 use Rattle.octets.specs.Octet.{octet}
 use Rattle.octets.specs.Applied.{applied}
 use Rattle.octets.proofs.Applied.{applied-none, applied-more, applied-same}
-use Rattle.octets.proofs.Octet.{octets-agree}
+use Rattle.octets.proofs.Octet.{octets-octet, octets-agree}
 use Rattle.rows.specs.declared.Act.{Act}
 use Rattle.rows.specs.declared.Act.the-variants.{Query}
 use Rattle.rows.specs.Rows.{changedRow, rowOf}
@@ -22,10 +22,12 @@ use Rattle.hub.specs.Names.{Named}
 use Rattle.hub.specs.Replies.{statusIn, replyOf}
 
 -- ---- the answer
--- how many octets it has: the rows and the message do not matter
-pub length-reply : (states m : List ℕ) (a : Ask) → length (replyOf states m a) ≡ replyLength (a .act) (a .range)
+-- how many octets it has: of the rows that of circuit m matters alone, and the message does not
+pub length-reply : (states m : List ℕ) (a : Ask) → length (replyOf states m a) ≡ replyLength (a .act) (a .range) (octet states (a .circuit))
 unfolding replyOf
-length-reply states m a = length-answer (a .act) (a .circuit) (a .range) (a .block) _ _
+length-reply states m a =
+    length-answer (a .act) (a .circuit) (a .range) (a .block) _ _
+    ∙ ap (replyLength (a .act) (a .range)) (octets-octet states (a .circuit) (a .range + 1) 0 (omega arith) ∙ ap (octet states) (add-zero (a .circuit)))
 
 -- it depends on the named rows alone
 pub reply-alike : (s t m : List ℕ) (a : Ask) → a .circuit + a .range < length s → a .circuit + a .range < length t → ((c : ℕ) → Named a c → octet s c ≡ octet t c) → replyOf s m a ≡ replyOf t m a

@@ -18,7 +18,7 @@ use Rattle.hub.specs.Rights.{firstForeign, firstIllegal, isFound}
 use Rattle.hub.specs.Rows.{rowsAfter}
 use Rattle.hub.specs.Replies.{replyOf}
 
--- IAM on a circuit that is busy or blocked
+-- IAM on a circuit that is busy or blocked, by the far side or by us
 abbrev pub isTaken : List ℕ → Act → ℕ → Bool
 isTaken states Seize circuit = not (eqb (octet states circuit) 0)
 isTaken states Release circuit = false

@@ -1,4 +1,4 @@
--- A list of calls on one table, over ownership that does not change.
+-- A list of calls on one table, over ownership that does not change: messages that are heard, and desk calls.
 use Prim.Native.Nat.{ℕ, _/_, _%_}
 use mathlib.Core.Bool.{Bool, false}
 use mathlib.Core.List.{List, [], _∷_}
@@ -9,24 +9,43 @@ use Rattle.octets.specs.Choice.{if_then_else_}
 use Rattle.octets.specs.Answer.{Answer}
 use Rattle.arrival.specs.Calls.{Calls}
 use Rattle.hub.specs.Tables.{tables}
-use Rattle.hub.specs.Acts.{actOf}
+use Rattle.hub.specs.Acts.{After, actOf}
+use Rattle.hub.specs.Desk.{deskOf}
 
--- a call: the sender, the message, and the answer buffer as it is lent
+-- what is asked: a message that is heard from a sender, or a desk call, our own block on a circuit set or cleared
+pub data Event : Type 0 where
+  heard : ℕ → List ℕ → Event
+  ours : ℕ → Bool → Event
+
+-- a call: what is asked, and the answer buffer as it is lent
 pub record Call : Type 0 where
-  pub sender : ℕ
-  pub message : List ℕ
+  pub asks : Event
   pub buffer : List ℕ
+
+-- whose call it is: a message is its sender's, and a desk call is the owner's of its circuit; party 0 where nobody owns it or it is above 4095
+abbrev pub partyOf : List ℕ → Event → ℕ
+partyOf owners (heard sender message) = sender
+partyOf owners (ours circuit set) = if ltb 4095 circuit then 0 else octet owners circuit
 
 -- what a call has back: the count of answer octets or the number, and all of the buffer afterwards
 pub record Reply : Type 0 where
   pub answer : Answer ℕ
   pub buffer : List ℕ
 
+-- what is done, each by the definition that `act` and `desk_call` are proved to meet
+abbrev pub doneBy : List ℕ → Event → List ℕ → List ℕ → After
+doneBy owners (heard sender message) buffer states = actOf (tables states owners) sender message buffer
+doneBy owners (ours circuit set) buffer states = deskOf states circuit set buffer
+
+-- the answer and the buffer of it
+abbrev pub replied : After → Reply
+replied r = record { answer = r .answer; buffer = r .buffer }
+
 -- a party has a right on the circuits that it owns, and party 0 on those that nobody owns; above 4095 there is no circuit
 abbrev pub holdsOf : List ℕ → ℕ → ℕ → Bool
 holdsOf owners q i = if ltb 4095 i then false else eqb (octet owners i) q
 
--- each by the definition that `act` is proved to meet. A call is its sender's
+-- the hub
 abbrev pub hub : List ℕ → Calls
 hub owners =
     record {
@@ -36,30 +55,25 @@ hub owners =
       Reply = Reply;
       sizes = λ s. length s ∷ [];
       row = λ s i. octet s i;
-      party = λ c. c .sender;
+      party = λ c. partyOf owners (c .asks);
       holds = holdsOf owners;
-      answer = λ c s. (let r = actOf (tables s owners) (c .sender) (c .message) (c .buffer) in record { answer = r .answer; buffer = r .buffer });
-      after = λ c s. actOf (tables s owners) (c .sender) (c .message) (c .buffer) .states;
+      answer = λ c s. replied (doneBy owners (c .asks) (c .buffer) s);
+      after = λ c s. doneBy owners (c .asks) (c .buffer) s .states;
     }
 
--- ---- the other reading of 'each with its own answer buffer': one buffer for each sender, lent again for each of its messages
--- the rows, and the buffer of each sender
+-- ---- the other reading of 'each with its own answer buffer': one buffer for each party, lent again for each of its calls
+-- the rows, and the buffer of each party
 pub record Standing : Type 0 where
   pub rows : List ℕ
   pub buffers : ℕ → List ℕ
 
--- a message from a sender
-pub record Sent : Type 0 where
-  pub sender : ℕ
-  pub message : List ℕ
+-- a call that lends its party's buffer as it stands
+abbrev pub lending : List ℕ → Standing → Event → Call
+lending owners s a = record { asks = a; buffer = s .buffers (partyOf owners a) }
 
--- what a call is that lends the sender's buffer as it stands
-abbrev pub lending : Standing → Sent → Call
-lending s c = record { sender = c .sender; message = c .message; buffer = s .buffers (c .sender) }
-
--- a sender's buffer as its call left it, the others as they were
+-- a party's buffer as its call left it, the others as they were
 abbrev pub lentAgain : (ℕ → List ℕ) → ℕ → List ℕ → ℕ → List ℕ
-lentAgain buffers sender left q = if eqb q sender then left else buffers q
+lentAgain buffers party left q = if eqb q party then left else buffers q
 
 -- what belongs to parties: the rows at even places, the buffers at odd ones
 abbrev pub standingAt : Standing → ℕ → List ℕ
@@ -75,12 +89,12 @@ hubKeeping owners =
     record {
       State = Standing;
       Row = List ℕ;
-      Call = Sent;
+      Call = Event;
       Reply = Reply;
       sizes = λ s. length (s .rows) ∷ [];
       row = standingAt;
-      party = λ c. c .sender;
+      party = partyOf owners;
       holds = standsOf owners;
-      answer = λ c s. hub owners .answer (lending s c) (s .rows);
-      after = λ c s. record { rows = hub owners .after (lending s c) (s .rows); buffers = lentAgain (s .buffers) (c .sender) (hub owners .answer (lending s c) (s .rows) .buffer) };
+      answer = λ a s. hub owners .answer (lending owners s a) (s .rows);
+      after = λ a s. record { rows = hub owners .after (lending owners s a) (s .rows); buffers = lentAgain (s .buffers) (partyOf owners a) (hub owners .answer (lending owners s a) (s .rows) .buffer) };
     }

@@ -10,7 +10,7 @@ use Rattle.octets.specs.Choice.{if_then_else_}
 use Rattle.octets.specs.Among.{among}
 use Rattle.octets.specs.Faults.{Fault, fault}
 use Rattle.isup.specs.declared.Message.{Message}
-use Rattle.rows.specs.Rows.{Legal}
+use Rattle.rows.specs.Rows.{Legal, local}
 use Rattle.isup.specs.Types.{IAM, REL, RSC, BLO, UBL, GRS, CQM}
 use Rattle.asks.specs.Asks.{width}
 use Rattle.asks.specs.Faults.{Reads, rangeGiven, askFaults}
@@ -32,23 +32,24 @@ Foreign owners sender m x = ((c : ℕ) × NamedBy m x c × (octet owners c ≡ s
 abbrev pub Illegal : List ℕ → List ℕ → Message → Type 0
 Illegal states m x = (c : ℕ) × NamedBy m x c × (Legal (octet states c) → ⊥)
 
--- 21: IAM on a circuit that is busy or blocked
+-- 21: IAM on a circuit that is busy or blocked, by the far side or by us
 abbrev pub Taken : List ℕ → Message → Type 0
 Taken states x = (x .kind ≡ IAM) × (octet states (x .circuit) ≡ 0 → ⊥)
 
--- how many octets answer a type with range r: none answer IAM; RLC has 4, BLA and UBA 3; GRA has 6 before its status, CGBA and CGUA 7; CQR has 9+r
-abbrev pub answerSize : ℕ → ℕ → ℕ
-answerSize kind r =
+-- how many octets answer a type with range r, where circuit m has that row: none answer IAM; RLC has 4, and 3 more for BLO before it where RSC finds the circuit locally blocked; BLA and UBA have 3; GRA has 6 before its status, CGBA and CGUA 7; CQR has 9+r
+abbrev pub answerSize : ℕ → ℕ → ℕ → ℕ
+answerSize kind r row =
     if eqb kind IAM then 0
-    else if among kind (REL ∷ RSC ∷ []) then 4
+    else if eqb kind REL then 4
+    else if eqb kind RSC then (if eqb (local row) 1 then 7 else 4)
     else if among kind (BLO ∷ UBL ∷ []) then 3
     else if eqb kind GRS then 6 + width r
     else if eqb kind CQM then 9 + r
     else 7 + width r
 
 -- 13: lent output too short
-abbrev pub NoRoom : List ℕ → ℕ → Message → Type 0
-NoRoom m room x = room < answerSize (x .kind) (rangeGiven m x)
+abbrev pub NoRoom : List ℕ → List ℕ → ℕ → Message → Type 0
+NoRoom states m room x = room < answerSize (x .kind) (rangeGiven m x) (octet states (x .circuit))
 
 -- what a call may be refused for
 abbrev pub actFaults : Tables → ℕ → List ℕ → ℕ → List Fault
@@ -58,5 +59,5 @@ actFaults T sender m room =
     ++ (fault 19 0 (Reads m (Foreign (T .owners) sender m))
     ∷ fault 20 0 (Reads m (Illegal (T .states) m))
     ∷ fault 21 0 (Reads m (Taken (T .states)))
-    ∷ fault 13 0 (Reads m (NoRoom m room))
+    ∷ fault 13 0 (Reads m (NoRoom (T .states) m room))
     ∷ []))

@@ -3,6 +3,7 @@ pub mod Rights
 pub mod Rows
 pub mod Replies
 pub mod Acts
+pub mod Desk
 pub mod Names
 pub mod Faults
 pub mod Rules

@@ -2,7 +2,7 @@
 use Prim.Native.Nat.{ℕ, _+_, _/_, _%_, _≤_, _<_}
 use mathlib.Core.Path.{_≡_}
 use mathlib.Core.Bool.{Bool, true, false}
-use mathlib.Core.List.{List, _∷_}
+use mathlib.Core.List.{List, [], _∷_}
 use mathlib.Core.Logic.{_⊎_}
 use lib.Dec.{eqb}
 use lib.ListN.{length}
@@ -10,6 +10,7 @@ use Rattle.octets.specs.Octet.{octet}
 use Rattle.octets.specs.Choice.{if_then_else_}
 use Rattle.octets.specs.Answer.{accepted}
 use Rattle.octets.specs.Filled.{filled}
+use Rattle.rows.specs.Rows.{local}
 use Rattle.isup.specs.declared.Message.{Message}
 use Rattle.isup.specs.WellFormed.{WellFormed}
 use Rattle.isup.specs.Types.{REL, RLC, RSC, BLO, UBL, BLA, UBA, GRS, CGB, CGU, CGBA, CGUA, GRA, CQM, CQR}
@@ -45,15 +46,15 @@ Acknowledges buffer buffer′ n m x type indicator =
     × Marks m (x .parts .first .from + 1) r status
     × Answers buffer buffer′ n ((x .circuit % 256) ∷ (x .circuit / 256) ∷ type ∷ indicator ∷ 1 ∷ (1 + width r) ∷ r ∷ status)
 
--- the type that answers a type: REL and RSC are answered by RLC, BLO by BLA, UBL by UBA, GRS by GRA, CGB by CGBA, CGU by CGUA, CQM by CQR; no type answers any other, and 0 is no type
-unfoldable pub answerType : ℕ → ℕ
-answerType kind =
-    if eqb kind REL then RLC
-    else if eqb kind RSC then RLC
-    else if eqb kind BLO then BLA
-    else if eqb kind UBL then UBA
-    else if eqb kind GRS then GRA
-    else if eqb kind CGB then CGBA
-    else if eqb kind CGU then CGUA
-    else if eqb kind CQM then CQR
-    else 0
+-- the types that answer a type, in turn, where circuit m has that row: none answers IAM; REL and RSC are answered by RLC, and BLO stands before it where RSC finds the circuit locally blocked; BLO by BLA, UBL by UBA, GRS by GRA, CGB by CGBA, CGU by CGUA, CQM by CQR; and no other is answered
+unfoldable pub answerTypes : ℕ → ℕ → List ℕ
+answerTypes kind row =
+    if eqb kind REL then RLC ∷ []
+    else if eqb kind RSC then (if eqb (local row) 1 then BLO ∷ RLC ∷ [] else RLC ∷ [])
+    else if eqb kind BLO then BLA ∷ []
+    else if eqb kind UBL then UBA ∷ []
+    else if eqb kind GRS then GRA ∷ []
+    else if eqb kind CGB then CGBA ∷ []
+    else if eqb kind CGU then CGUA ∷ []
+    else if eqb kind CQM then CQR ∷ []
+    else []

@@ -1,4 +1,4 @@
-// The hub: nine types act on one shared table of circuits, and nobody's message touches what another owns.
+// The hub: nine types act on one shared table of circuits, and nobody's message touches what another owns; and the desk blocks circuits from our side.
 ghost use mathlib.Core.Path.{_≡_};
 ghost use mathlib.Core.Logic.{_⊎_};
 ghost use Prim.Native.Nat.{_+_, _/_, _≤_, _<_};
@@ -10,6 +10,7 @@ ghost use Rattle.hub.specs.Rights.{isMine, isFound, firstForeign, firstI
 ghost use Rattle.hub.specs.Rows.{rowsAfter};
 ghost use Rattle.hub.specs.Replies.{statusIn, replyOf};
 ghost use Rattle.hub.specs.Acts.{isTaken, permittedOf, judgedOf, after, actOf};
+ghost use Rattle.hub.specs.Desk.{deskOf};
 ghost use Rattle.octets.specs.Filled.{leaving};
 ghost use Rattle.octets.specs.Told.{writtenTold};
 ghost use Rattle.replies.specs.Replies.{sent};
@@ -150,7 +151,7 @@ fn write_reply(states: &[u8], message: &[u8], ask: Ask, answer: &mut [u8]) -> Wr
     )
 }
 
-// Whether the message is an IAM on a circuit that is busy or blocked.
+// Whether the message is an IAM on a circuit that is busy or blocked, by the far side or by us.
 fn taken(states: &[u8], act: Act, circuit: usize) -> bool
     requires { ⌜ circuit < length (now states) ⌝ }
     ensures { λ r. ⌜ r ≡ isTaken (now (states .entry)) act circuit ⌝ }
@@ -225,5 +226,30 @@ pub fn act(
                 Written::Octets(n)
             }
         },
+    }
+}
+
+// A call of our own desk: sets the block of a circuit from our side, or clears it, whoever owns the circuit. The BLO or UBL to send fills the front of `answer` and its count is given.
+// Refused in order: 16 where there are not 4096 states, 9 for a circuit above 4095, 20 where its row is not legal, 13 for fewer than three octets of `answer`; a refusal changes nothing.
+pub fn desk_call(states: &mut [u8], circuit: u32, set: bool, answer: &mut [u8]) -> Written
+    ensures { λ r. ⌜ after (writtenTold r) (now (states .exit)) (now (answer .exit)) ≡
+        deskOf (now (states .entry)) circuit set (now (answer .entry)) ⌝ }
+{
+    if states.len() != CIRCUITS {
+        return Written::Refused(16, 0);
+    }
+    if circuit > 4095 {
+        return Written::Refused(9, 0);
+    }
+    let row = states[circuit as usize];
+    if !rows::legal(row) {
+        return Written::Refused(20, 0);
+    }
+    match replies::notice(circuit as u16, set, answer) {
+        Written::Refused(number, place) => Written::Refused(number, place),
+        Written::Octets(n) => {
+            states[circuit as usize] = rows::local_block(set, row);
+            Written::Octets(n)
+        }
     }
 }

@@ -7,7 +7,8 @@ use native.Mathlib.Omega.{arith}
 use lib.Dec.{eqb}
 use borrow.Author.Tests.{ne-eqb}
 use Rattle.octets.specs.Octet.{octet}
-use Rattle.octets.proofs.Tabulate.{tabulate, tabulated}
+use Rattle.octets.specs.Tabulate.{tabulate}
+use Rattle.octets.proofs.Tabulate.{tabulated}
 use Rattle.layout.specs.declared.Shape.{Shape}
 use Rattle.layout.specs.declared.Row.{Row}
 use Rattle.layout.specs.declared.Row.the-variants.{Has, Unknown}

@@ -9,7 +9,7 @@ use native.Mathlib.Nat.{mod-lt}
 use borrow.Author.Tests.{ltb-false}
 use lib.Dec.{ltb}
 use lib.ListN.{length}
-use Rattle.octets.specs.Octet.{AllOctets}
+use Rattle.octets.specs.Octet.{AllOctets, octet}
 use Rattle.octets.specs.Choice.{if_then_else_}
 use Rattle.octets.specs.Answer.{Answer, accepted, refused, _then_}
 use Rattle.octets.specs.Filled.{Done, done, leaving, roomFor}
@@ -34,6 +34,8 @@ use Rattle.asks.proofs.Reading.{ask-sound}
 use Rattle.hub.specs.Tables.{Tables}
 use Rattle.replies.proofs.Writing.{reply-length}
 use Rattle.hub.specs.Acts.{actOf}
+use Rattle.hub.specs.Desk.{deskOf}
+use Rattle.hub.proofs.Desk.{desk-called}
 use Rattle.hub.proofs.Writing.{length-reply}
 use Rattle.hub.proofs.Called.{call-accepted}
 use Rattle.finding.specs.Find.{locateOf}
@@ -154,4 +156,8 @@ pub act-small : (T : Tables) (sender : ℕ) (m buffer : List ℕ) (n : ℕ) → 
 act-small T sender m buffer n o e =
     let k = call-accepted T sender m buffer n e in
     let s = ask-sound m (k .ask) o (k .allowed .asks) in
-    omega (arith, k .count, length-reply (T .states) m (k .ask), reply-length (k .ask .act) (k .ask .range) (s .few) (s .fewer))
+    omega (arith, k .count, length-reply (T .states) m (k .ask), reply-length (k .ask .act) (k .ask .range) (octet (T .states) (k .ask .circuit)) (s .few) (s .fewer))
+
+-- a desk call's answer has three
+pub desk-small : (states : List ℕ) (circuit : ℕ) (set : Bool) (buffer : List ℕ) (n : ℕ) → deskOf states circuit set buffer .answer ≡ accepted n → n ≤ 3
+desk-small states circuit set buffer n e = omega (arith, desk-called states circuit set buffer n e .count)

@@ -3,6 +3,8 @@ ghost use mathlib.Core.Path.{_≡_};
 ghost use Prim.Native.Nat.{ℕ, _+_, _*_, _≤_};
 ghost use lib.ListN.{length};
 ghost use mathlib.Core.List.{[], _∷_};
+ghost use mathlib.Core.Bool.{not};
+ghost use lib.Dec.{eqb};
 ghost use Rattle.octets.specs.Answer.{accepted, refused};
 ghost use Rattle.octets.specs.Filled.{done, roomFor, filled};
 ghost use Rattle.isup.specs.Write.{writeOf, compactOf};
@@ -10,6 +12,7 @@ ghost use Rattle.number.specs.Read.{readNumberOf};
 ghost use Rattle.number.specs.Write.{writeNumberOf};
 ghost use Rattle.hub.specs.Tables.{tables};
 ghost use Rattle.hub.specs.Acts.{actOf};
+ghost use Rattle.hub.specs.Desk.{deskOf};
 ghost use Rattle.octets.specs.Told.{writtenTold};
 ghost use Rattle.layout.specs.Spans.{spanSize};
 ghost use Rattle.llachurep.specs.Boundary.{packed, given, givenBy, fixedStart, valuesOf, Small, readGives, findGives, numberGiven, called, calledBy};
@@ -195,4 +198,18 @@ pub extern "C" fn llachurep_act(
         calledBy (actOf (tables (now (states .entry)) (now (owners .entry))) sender (now (message .entry)) (now (answer .entry))) ⌝ }
 {
     written(hub::act(states, owners, sender, message, answer))
+}
+
+// Our own block on a circuit: 0 for `set` clears it, anything else sets it. Accepted: 3, and the BLO or UBL to send stands at the front of `answer`; the circuit's row changes. Refused with 16, 9, 20, 13.
+#[no_mangle]
+pub extern "C" fn llachurep_block(
+    states: &mut [u8],
+    circuit: u32,
+    set: u32,
+    answer: &mut [u8],
+) -> u32
+    ensures { λ r. ⌜ called r (now (states .exit)) (now (answer .exit)) ≡
+        calledBy (deskOf (now (states .entry)) circuit (not (eqb set 0)) (now (answer .entry))) ⌝ }
+{
+    written(hub::desk_call(states, circuit, set != 0, answer))
 }

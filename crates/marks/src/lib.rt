@@ -1,9 +1,9 @@
-// How many circuits the status of a group marks.
+// The status of a group: how many circuits it marks, and the status octets of an answer.
 ghost use mathlib.Core.Path.{_≡_};
 ghost use Prim.Native.Nat.{_*_, _≤_};
 ghost use lib.ListN.{length};
 ghost use Rattle.octets.specs.Sum.{total};
-ghost use Rattle.marks.specs.Marks.{statusBit, cutTo, marksIn};
+ghost use Rattle.marks.specs.Marks.{statusBit, cutTo, marksIn, statusOctet, bitsIn, lockedOctet};
 
 // The low bits of an octet, as many as the last status octet of that range has; the spare bits are 0.
 pub fn cut(octet: u8, range: u8) -> u8
@@ -37,4 +37,39 @@ pub fn marks_in(range: u8, status: &[u8]) -> usize
         return whole + u8::count_ones(cut(status[last], range)) as usize;
     }
     ones_in(status, status.len()) as usize
+}
+
+// Octet j of an answer's status: that of the message, its spare bits 0, and 0 where the message has none.
+pub fn status_octet(range: u8, status: &[u8], j: usize) -> u8
+    ensures { λ r. ⌜ r ≡ statusOctet range (now (status .entry)) j ⌝ }
+{
+    let octet = rows::octet_at(status, j);
+    if j < (range / 8) as usize {
+        return octet;
+    }
+    cut(octet, range)
+}
+
+// How many circuits octet j of a status is about: eight, or in the last octet as many as are left.
+fn bits_in(range: u8, j: u8) -> u8
+    ensures { λ r. ⌜ r ≡ bitsIn range j ⌝ }
+{
+    if j < range / 8 {
+        return 8;
+    }
+    range % 8 + 1
+}
+
+// Octet j of the status that GRA has: a 1 for each circuit of the group that is locally blocked, low bit first, and spare bits 0.
+pub fn locked_octet(range: u8, group: &[u8], j: u8) -> u8
+    ensures { λ r. ⌜ r ≡ lockedOctet range (now (group .entry)) j ⌝ }
+{
+    let mut bit = bits_in(range, j);
+    let mut octet = 0u8;
+    while bit > 0 {
+        bit -= 1;
+        let row = rows::octet_at(group, 8 * j as usize + bit as usize);
+        octet = octet * 2 + row / 8 % 2;
+    }
+    octet
 }

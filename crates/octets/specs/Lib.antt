@@ -6,5 +6,6 @@ pub mod Stretch
 pub mod Filled
 pub mod Applied
 pub mod Sum
+pub mod Tabulate
 pub mod Among
 pub mod Told

@@ -45,21 +45,29 @@ ROWS = 9
 abbrev pub ACT : ℕ
 ACT = 10
 
+-- block CIRCUIT ROOM
+abbrev pub BLOCK : ℕ
+BLOCK = 11
+
+-- unblock CIRCUIT ROOM
+abbrev pub UNBLOCK : ℕ
+UNBLOCK = 12
+
 -- velocity BEARING SPEED
 abbrev pub VELOCITY : ℕ
-VELOCITY = 11
+VELOCITY = 13
 
 -- velocity BEARING SPEED VERTICAL MARK
 abbrev pub VELOCITY-LONG : ℕ
-VELOCITY-LONG = 12
+VELOCITY-LONG = 14
 
 -- velocity-back BEARING SPEED
 abbrev pub VELOCITY-BACK : ℕ
-VELOCITY-BACK = 13
+VELOCITY-BACK = 15
 
 -- velocity-back BEARING SPEED VERTICAL MARK
 abbrev pub VELOCITY-BACK-LONG : ℕ
-VELOCITY-BACK-LONG = 14
+VELOCITY-BACK-LONG = 16
 
 -- a line that is no request
 abbrev pub BAD : ℕ

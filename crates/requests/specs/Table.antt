@@ -85,6 +85,8 @@ forms =
     ∷ row "set" "clv"
     ∷ row "rows" "cl"
     ∷ row "act" "nsr"
+    ∷ row "block" "nr"
+    ∷ row "unblock" "nr"
     ∷ row "velocity" "ww"
     ∷ row "velocity" "wwww"
     ∷ row "velocity-back" "hh"

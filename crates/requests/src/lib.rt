@@ -56,17 +56,23 @@ pub const ROWS: usize = 9;
 // act SENDER MESSAGE ROOM
 pub const ACT: usize = 10;
 
+// block CIRCUIT ROOM
+pub const BLOCK: usize = 11;
+
+// unblock CIRCUIT ROOM
+pub const UNBLOCK: usize = 12;
+
 // velocity BEARING SPEED
-pub const VELOCITY: usize = 11;
+pub const VELOCITY: usize = 13;
 
 // velocity BEARING SPEED VERTICAL MARK
-pub const VELOCITY_LONG: usize = 12;
+pub const VELOCITY_LONG: usize = 14;
 
 // velocity-back BEARING SPEED
-pub const VELOCITY_BACK: usize = 13;
+pub const VELOCITY_BACK: usize = 15;
 
 // velocity-back BEARING SPEED VERTICAL MARK
-pub const VELOCITY_BACK_LONG: usize = 14;
+pub const VELOCITY_BACK_LONG: usize = 16;
 
 // A line that is no request.
 pub const BAD: usize = 255;
@@ -379,6 +385,18 @@ fn row_of(key: u64) -> Row
         15765 => Row {
             which: ACT,
             letters: 0x72736e,
+            longer: 0,
+        },
+        // block nr
+        6839170 => Row {
+            which: BLOCK,
+            letters: 0x726e,
+            longer: 0,
+        },
+        // unblock nr
+        5361909693 => Row {
+            which: UNBLOCK,
+            letters: 0x726e,
             longer: 0,
         },
         // velocity ww wwww

@@ -1,4 +1,4 @@
--- What a row says and what becomes of it: 1 busy, 2 remotely blocked for maintenance, 4 for hardware, added up.
+-- What a row says and what becomes of it: 1 busy, 2 remotely blocked for maintenance, 4 for hardware, 8 locally blocked, added up.
 use Prim.Native.Nat.{ℕ, _+_, _-_, _*_, _/_, _%_}
 use mathlib.Core.Bool.{Bool}
 use mathlib.Core.List.{List, [], _∷_}
@@ -21,9 +21,13 @@ maintenance row = row / 2 % 2
 abbrev pub hardware : ℕ → ℕ
 hardware row = row / 4 % 2
 
--- the states that a row may have
+-- 1 where it is locally blocked: by our own desk
+abbrev pub local : ℕ → ℕ
+local row = row / 8 % 2
+
+-- the states that a row may have: document 01's, and each of them with 8 added
 abbrev pub legalRows : List ℕ
-legalRows = 0 ∷ 1 ∷ 2 ∷ 3 ∷ 4 ∷ 6 ∷ []
+legalRows = 0 ∷ 1 ∷ 2 ∷ 3 ∷ 4 ∷ 6 ∷ 8 ∷ 9 ∷ 10 ∷ 11 ∷ 12 ∷ 14 ∷ []
 
 -- whether a row is one of them
 unfoldable pub isLegal : ℕ → Bool
@@ -54,6 +58,18 @@ withHardware row = row / 8 * 8 + 4 + row % 4
 abbrev pub withoutHardware : ℕ → ℕ
 withoutHardware row = row / 8 * 8 + row % 4
 
+-- state 0 but for the 8
+abbrev pub cleared : ℕ → ℕ
+cleared row = local row * 8
+
+-- the row with the 8 set
+abbrev pub withLocal : ℕ → ℕ
+withLocal row = row / 16 * 16 + 8 + row % 8
+
+-- the row with the 8 cleared
+abbrev pub withoutLocal : ℕ → ℕ
+withoutLocal row = row / 16 * 16 + row % 8
+
 -- a block of that kind set, and for hardware busy ended too
 unfoldable pub blockedRow : ℕ → ℕ → ℕ
 blockedRow block row = if eqb block 0 then withMaintenance row else idled (withHardware row)
@@ -66,10 +82,10 @@ unblockedRow block row = if eqb block 0 then withoutMaintenance row else without
 unfoldable pub changedRow : Act → ℕ → ℕ → ℕ
 changedRow Seize block row = 1
 changedRow Release block row = idled row
-changedRow Reset block row = 0
+changedRow Reset block row = cleared row
 changedRow Block block row = blockedRow 0 row
 changedRow Unblock block row = unblockedRow 0 row
-changedRow ResetGroup block row = 0
+changedRow ResetGroup block row = cleared row
 changedRow BlockGroup block row = blockedRow block row
 changedRow UnblockGroup block row = unblockedRow block row
 changedRow Query block row = row
@@ -78,7 +94,11 @@ changedRow Query block row = row
 abbrev pub rowOf : Act → ℕ → Bool → ℕ → ℕ
 rowOf act block marked row = if marked then changedRow act block row else row
 
+-- what the desk makes of a row: the 8 is set or cleared
+unfoldable pub localRow : Bool → ℕ → ℕ
+localRow set row = if set then withLocal row else withoutLocal row
+
 -- ---- what is told of it
--- the circuit state octet of a row (003, 3.12): idle 0C, busy 04, remotely blocked for maintenance 02 more, for hardware 20 more
+-- the circuit state octet of a row (003, 3.12): idle 0C, busy 04, remotely blocked for maintenance 02 more, for hardware 20 more, locally blocked 01 more
 abbrev pub circuitState : ℕ → ℕ
-circuitState row = 12 - 8 * busy row + 2 * maintenance row + 32 * hardware row
+circuitState row = 12 - 8 * busy row + 2 * maintenance row + 32 * hardware row + local row

@@ -1,7 +1,7 @@
 -- The circuit state octet, in the words of 003, 3.12: its bits are named A to H, from the low end.
 use Prim.Native.Nat.{ℕ, _/_, _%_}
 use mathlib.Core.Path.{_≡_}
-use Rattle.rows.specs.Rows.{busy, maintenance, hardware}
+use Rattle.rows.specs.Rows.{busy, maintenance, hardware, local}
 
 -- bits B A: maintenance blocking state
 abbrev pub bitsBA : ℕ → ℕ
@@ -26,9 +26,13 @@ pub record SaysOfRow (row octet : ℕ) : Type 0 where
   -- 1 1: idle
   pub idle : busy row ≡ 0 → bitsDC octet ≡ 3
   -- 0 0: no blocking
-  pub active : maintenance row ≡ 0 → bitsBA octet ≡ 0
+  pub active : maintenance row ≡ 0 → local row ≡ 0 → bitsBA octet ≡ 0
+  -- 0 1: locally blocked
+  pub ours : maintenance row ≡ 0 → local row ≡ 1 → bitsBA octet ≡ 1
   -- 1 0: remotely blocked
-  pub blocked : maintenance row ≡ 1 → bitsBA octet ≡ 2
+  pub blocked : maintenance row ≡ 1 → local row ≡ 0 → bitsBA octet ≡ 2
+  -- 1 1: locally and remotely blocked
+  pub both : maintenance row ≡ 1 → local row ≡ 1 → bitsBA octet ≡ 3
   -- 0 0: no blocking
   pub sound : hardware row ≡ 0 → bitsFE octet ≡ 0
   -- 1 0: remotely blocked

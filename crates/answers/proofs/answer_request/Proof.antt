@@ -4,9 +4,10 @@ use denote.Ref.{now}
 use Rattle.hub.specs.Tables.{tables}
 use Rattle.printing.specs.Sheet.{sheet}
 use Rattle.requests.specs.Along.{saidIn}
-use Rattle.table_lines.specs.Tables.{Turn, leftBy}
+use Rattle.block_lines.specs.Blocks.{Blocked}
+use Rattle.table_lines.specs.Tables.{Turn, left, leftBy}
 use Rattle.table_lines.proofs.Leaving.{left-same}
-use Rattle.answers.proofs.Turned.{turn-codec, turn-numbers, turn-tables, turn-hub, turn-velocities, turn-none, table-any}
+use Rattle.answers.proofs.Turned.{turn-codec, turn-numbers, turn-tables, turn-hub, turn-blocks, turn-velocities, turn-none, table-any, block-any}
 use borrow.Author.Needs.{needs}
 use Rattle.answers.proofs.answer_request.Statement.{statement}
 use Rattle.answers.proofs.answer_request.Tie as tie
@@ -69,16 +70,32 @@ returns-4 c =
     let a = c .before .before .before .before .before .before .before .before .before .before .before .before .before .before .before .before .before .before .before .before .args in
     c .before .before .before .before .act-turn .ensures ∙ ap (λ (x : Turn). leftBy x (sheet (now (a .out)) 0)) (turn-hub (tables (now (a .states)) (now (a .owners))) (a .request .which) (saidIn (now (a .octets)) (a .request .fields)) (c .before .before .before .before .before .before .before .before .if4 .taken))
 
-velocities-line-requires : tie.Need-velocities-line-requires
-velocities-line-requires c κs = search needs
+block-turn-requires : tie.Need-block-turn-requires
+block-turn-requires c κs = search needs
 
 same-length-9 : tie.Need-same-length-9
 same-length-9 c = search needs
 
+same-length-10 : tie.Need-same-length-10
+same-length-10 c = search needs
+
 returns-5 : tie.Need-returns-5
 returns-5 c =
-    let a = c .before .before .before .before .before .before .before .before .before .before .before .before .before .before .before .before .before .before .args in
-    left-same refl (c .before .before .velocities-line .ensures) ∙ ap (λ (x : Turn). leftBy x (sheet (now (a .out)) 0)) (turn-velocities (tables (now (a .states)) (now (a .owners))) (a .request .which) (saidIn (now (a .octets)) (a .request .fields)) (c .before .before .before .before .before .before .before .before .if3 .left) (c .before .before .before .before .before .before .if4 .left) (c .before .before .before .before .if5 .taken))
+    let a = c .before .before .before .before .before .before .before .before .before .before .before .before .before .before .before .before .before .before .before .before .before .args in
+    let T = tables (now (a .states)) (now (a .owners)) in
+    ap (λ (x : Blocked). left (tables (x .states) (now (a .owners))) (x .sheet)) (c .before .before .before .before .block-turn .ensures)
+    ∙ ap (λ (x : Turn). leftBy x (sheet (now (a .out)) 0)) (block-any T (a .request .which) [] (now (a .octets)) (a .request .fields) ∙ turn-blocks T (a .request .which) (saidIn (now (a .octets)) (a .request .fields)) (c .before .before .before .before .before .before .before .before .before .before .before .if3 .left) (c .before .before .before .before .before .before .before .before .before .if4 .left) (c .before .before .before .before .before .before .before .if5 .taken))
+
+velocities-line-requires : tie.Need-velocities-line-requires
+velocities-line-requires c κs = search needs
+
+same-length-11 : tie.Need-same-length-11
+same-length-11 c = search needs
+
+returns-6 : tie.Need-returns-6
+returns-6 c =
+    let a = c .before .before .before .before .before .before .before .before .before .before .before .before .before .before .before .before .before .before .before .before .args in
+    left-same refl (c .before .before .velocities-line .ensures) ∙ ap (λ (x : Turn). leftBy x (sheet (now (a .out)) 0)) (turn-velocities (tables (now (a .states)) (now (a .owners))) (a .request .which) (saidIn (now (a .octets)) (a .request .fields)) (c .before .before .before .before .before .before .before .before .if4 .left) (c .before .before .before .before .before .before .if5 .left) (c .before .before .before .before .if6 .taken))
 
 slice-aggregate-put-text : tie.Need-slice-aggregate-put-text
 slice-aggregate-put-text c = search needs
@@ -86,13 +103,13 @@ slice-aggregate-put-text c = search needs
 put-text-requires : tie.Need-put-text-requires
 put-text-requires c κs = search needs
 
-same-length-10 : tie.Need-same-length-10
-same-length-10 c = search needs
+same-length-12 : tie.Need-same-length-12
+same-length-12 c = search needs
 
-returns-6 : tie.Need-returns-6
-returns-6 c =
-    let a = c .before .before .before .before .before .before .before .before .before .before .before .before .before .before .before .before .before .before .before .args in
-    left-same refl (c .before .before .put-text .ensures) ∙ ap (λ (x : Turn). leftBy x (sheet (now (a .out)) 0)) (turn-none (tables (now (a .states)) (now (a .owners))) (a .request .which) (saidIn (now (a .octets)) (a .request .fields)) (c .before .before .before .before .before .before .before .if4 .left) (c .before .before .before .before .before .if5 .left))
+returns-7 : tie.Need-returns-7
+returns-7 c =
+    let a = c .before .before .before .before .before .before .before .before .before .before .before .before .before .before .before .before .before .before .before .before .before .args in
+    left-same refl (c .before .before .put-text .ensures) ∙ ap (λ (x : Turn). leftBy x (sheet (now (a .out)) 0)) (turn-none (tables (now (a .states)) (now (a .owners))) (a .request .which) (saidIn (now (a .octets)) (a .request .fields)) (c .before .before .before .before .before .before .before .before .before .if4 .left) (c .before .before .before .before .before .if6 .left))
 
 pub answer-request-spec : {M : Type 1} → statement M
 answer-request-spec =
@@ -114,10 +131,14 @@ answer-request-spec =
     same-length-7
     same-length-8
     returns-4
-    velocities-line-requires
+    block-turn-requires
     same-length-9
+    same-length-10
     returns-5
+    velocities-line-requires
+    same-length-11
+    returns-6
     slice-aggregate-put-text
     put-text-requires
-    same-length-10
-    returns-6)
+    same-length-12
+    returns-7)

@@ -4,10 +4,12 @@ use Prim.Native.Nat.{ℕ, _+_, _/_}
 use native.Mathlib.Omega.{arith}
 use lib.ListN.{set, length-set}
 use lib.Seq.{sets}
+use Rattle.octets.proofs.Tabulate.{length-tabulate}
+use Rattle.marks.specs.Marks.{statusOctet}
 use denote.Ref.{now}
 use Rattle.asks.specs.Asks.{width}
-use Rattle.replies.specs.Replies.{headed, rangeAndStatus}
-use Rattle.replies.proofs.Writing.{length-status, sent-short, sent-stored}
+use Rattle.replies.specs.Replies.{headed, statusGiven, rangeAndStatus}
+use Rattle.replies.proofs.Writing.{sent-short, sent-stored}
 use borrow.Author.Needs.{needs}
 use Rattle.replies.proofs.answer_group.Statement.{statement}
 use Rattle.replies.proofs.answer_group.Tie as tie
@@ -21,7 +23,7 @@ add-size c = search needs
 returns : tie.Need-returns
 returns c =
     let a = c .before .before .before .args in
-    sent-short (headed (a .circuit) (a .kind) (a .block ∷ rangeAndStatus (a .range) (now (a .status)))) (now (a .answer)) (8 + a .range / 8) (omega (arith, length-status (a .range) (now (a .status)) 0 (width (a .range)))) (c .if1 .taken)
+    sent-short (headed (a .circuit) (a .kind) (a .block ∷ rangeAndStatus (a .range) (statusGiven (a .range) (now (a .status))))) (now (a .answer)) (8 + a .range / 8) (omega (arith, length-tabulate (statusOctet (a .range) (now (a .status))) 0 (width (a .range)))) (c .if1 .taken)
 
 write-head-requires : tie.Need-write-head-requires
 write-head-requires c κs = search needs
@@ -38,7 +40,7 @@ same-length c = c .before .before .write-status .kept .1 .1 .0 ∙ simp length-s
 returns-2 : tie.Need-returns-2
 returns-2 c =
     let a = c .before .before .before .before .before .before .before .before .before .before .before .args in
-    sent-stored (headed (a .circuit) (a .kind) (a .block ∷ rangeAndStatus (a .range) (now (a .status)))) (now (a .answer)) _ (8 + a .range / 8) (omega (arith, length-status (a .range) (now (a .status)) 0 (width (a .range)))) (c .before .before .before .before .before .before .before .before .if1 .left) (c .before .before .write-status .ensures ∙ ap (λ (l : List ℕ). sets (set l 3 (a .block)) 4 (rangeAndStatus (a .range) (now (a .status)))) (c .before .before .before .before .before .before .write-head .ensures))
+    sent-stored (headed (a .circuit) (a .kind) (a .block ∷ rangeAndStatus (a .range) (statusGiven (a .range) (now (a .status))))) (now (a .answer)) _ (8 + a .range / 8) (omega (arith, length-tabulate (statusOctet (a .range) (now (a .status))) 0 (width (a .range)))) (c .before .before .before .before .before .before .before .before .if1 .left) (c .before .before .write-status .ensures ∙ ap (λ (l : List ℕ). sets (set l 3 (a .block)) 4 (rangeAndStatus (a .range) (statusGiven (a .range) (now (a .status))))) (c .before .before .before .before .before .before .write-head .ensures))
 
 pub answer-group-spec : {M : Type 1} → statement M
 answer-group-spec =

@@ -3,11 +3,13 @@ use mathlib.Core.Path.{_∙_, ap}
 use Prim.Native.Nat.{ℕ, _+_, _/_}
 use native.Mathlib.Omega.{arith}
 use lib.Seq.{sets}
+use Rattle.octets.proofs.Tabulate.{length-tabulate}
+use Rattle.marks.specs.Marks.{lockedOctet}
 use denote.Ref.{now}
 use Rattle.isup.specs.Types.{GRA}
 use Rattle.asks.specs.Asks.{width}
-use Rattle.replies.specs.Replies.{headed, rangeAndStatus}
-use Rattle.replies.proofs.Writing.{length-status, sent-short, sent-stored}
+use Rattle.replies.specs.Replies.{headed, statusLocked, rangeAndStatus}
+use Rattle.replies.proofs.Writing.{sent-short, sent-stored}
 use borrow.Author.Needs.{needs}
 use Rattle.replies.proofs.answer_reset.Statement.{statement}
 use Rattle.replies.proofs.answer_reset.Tie as tie
@@ -21,13 +23,13 @@ add-size c = search needs
 returns : tie.Need-returns
 returns c =
     let a = c .before .before .before .args in
-    sent-short (headed (a .circuit) GRA (rangeAndStatus (a .range) (now (a .status)))) (now (a .answer)) (7 + a .range / 8) (omega (arith, length-status (a .range) (now (a .status)) 0 (width (a .range)))) (c .if1 .taken)
+    sent-short (headed (a .circuit) GRA (rangeAndStatus (a .range) (statusLocked (a .range) (now (a .group))))) (now (a .answer)) (7 + a .range / 8) (omega (arith, length-tabulate (lockedOctet (a .range) (now (a .group))) 0 (width (a .range)))) (c .if1 .taken)
 
 write-head-requires : tie.Need-write-head-requires
 write-head-requires c κs = search needs
 
-write-status-requires : tie.Need-write-status-requires
-write-status-requires c κs = omega (arith, c .before .before .before .write-head .kept .1 .1 .0)
+write-locks-requires : tie.Need-write-locks-requires
+write-locks-requires c κs = omega (arith, c .before .before .before .write-head .kept .1 .1 .0)
 
 same-length : tie.Need-same-length
 same-length c = search needs
@@ -35,7 +37,7 @@ same-length c = search needs
 returns-2 : tie.Need-returns-2
 returns-2 c =
     let a = c .before .before .before .before .before .before .before .before .before .before .before .args in
-    sent-stored (headed (a .circuit) GRA (rangeAndStatus (a .range) (now (a .status)))) (now (a .answer)) _ (7 + a .range / 8) (omega (arith, length-status (a .range) (now (a .status)) 0 (width (a .range)))) (c .before .before .before .before .before .before .before .before .if1 .left) (c .before .before .write-status .ensures ∙ ap (λ (l : List ℕ). sets l 3 (rangeAndStatus (a .range) (now (a .status)))) (c .before .before .before .before .before .before .write-head .ensures))
+    sent-stored (headed (a .circuit) GRA (rangeAndStatus (a .range) (statusLocked (a .range) (now (a .group))))) (now (a .answer)) _ (7 + a .range / 8) (omega (arith, length-tabulate (lockedOctet (a .range) (now (a .group))) 0 (width (a .range)))) (c .before .before .before .before .before .before .before .before .if1 .left) (c .before .before .write-locks .ensures ∙ ap (λ (l : List ℕ). sets l 3 (rangeAndStatus (a .range) (statusLocked (a .range) (now (a .group))))) (c .before .before .before .before .before .before .write-head .ensures))
 
 pub answer-reset-spec : {M : Type 1} → statement M
 answer-reset-spec =
@@ -45,6 +47,6 @@ answer-reset-spec =
     add-size
     returns
     write-head-requires
-    write-status-requires
+    write-locks-requires
     same-length
     returns-2)

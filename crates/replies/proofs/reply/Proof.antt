@@ -1,5 +1,6 @@
+use Prim.Native.Nat.{ℕ}
 use Rattle.rows.specs.declared.Act.{Act}
-use Rattle.replies.specs.Replies.{answerTo, sent}
+use Rattle.replies.specs.Replies.{completion, answerTo, sent}
 use Rattle.replies.proofs.Writing.{sent-stored}
 use denote.Ref.{now}
 use mathlib.Core.List.{[]}
@@ -21,8 +22,11 @@ answer-complete-requires c κs = search needs
 enum-told-3 : tie.Need-enum-told-3
 enum-told-3 c = search needs
 
-answer-complete-requires-2 : tie.Need-answer-complete-requires-2
-answer-complete-requires-2 c κs = search needs
+octet-at-requires : tie.Need-octet-at-requires
+octet-at-requires c κs = search needs
+
+answer-clear-requires : tie.Need-answer-clear-requires
+answer-clear-requires c κs = search needs
 
 enum-told-4 : tie.Need-enum-told-4
 enum-told-4 c = search needs
@@ -73,7 +77,11 @@ same-length-2 : tie.Need-same-length-2
 same-length-2 c = search needs
 
 returns-3 : tie.Need-returns-3
-returns-3 c = let a = c .before .before .before .before .before .before .before .before .before .args in c .before .before .answer-complete2 .ensures ∙ ap (λ (k : Act). sent (answerTo k (a .circuit) (a .range) (a .block) (now (a .group)) (now (a .status))) (now (a .answer))) (sym (c .before .before .before .before .enum-told3 .given .1))
+returns-3 c =
+    let a = c .before .before .before .before .before .before .before .before .before .before .args in
+    c .before .before .answer-clear .ensures
+    ∙ ap (λ (row : ℕ). sent (completion (a .circuit) row) (now (a .answer))) (c .before .before .before .before .octet-at .ensures)
+    ∙ ap (λ (k : Act). sent (answerTo k (a .circuit) (a .range) (a .block) (now (a .group)) (now (a .status))) (now (a .answer))) (sym (c .before .before .before .before .before .enum-told3 .given .1))
 
 same-length-3 : tie.Need-same-length-3
 same-length-3 c = search needs
@@ -119,7 +127,8 @@ reply-spec =
     enum-told-2
     answer-complete-requires
     enum-told-3
-    answer-complete-requires-2
+    octet-at-requires
+    answer-clear-requires
     enum-told-4
     answer-plain-requires
     enum-told-5

@@ -1,4 +1,5 @@
-use Rattle.replies.proofs.Writing.{states-more, states-done}
+use Rattle.octets.specs.Octet.{octet}
+use Rattle.octets.proofs.Tabulate.{tabulate-more, tabulate-done}
 use Rattle.replies.specs.Replies.{statesFrom}
 use Rattle.rows.specs.Rows.{circuitState}
 use lib.Seq.{sets}
@@ -70,7 +71,7 @@ loop-again : tie.Need-loop-again Inv-loop μ-loop
 loop-again c =
     let l = c .before .before .before .loop in
     let a = c .before .before .before .before .before .before .args in
-    (omega arith, simp length-set (kept (c .before .before .before)), sym (states-more (now (a .group)) (l .answer) 8 (l .i) _ _ (c .circuit-state .result) (omega arith) (c .circuit-state .ensures ∙ ap circuitState (c .before .octet-at .ensures))) ∙ l .inv .2)
+    (omega arith, simp length-set (kept (c .before .before .before)), sym (tabulate-more (λ k. circuitState (octet (now (a .group)) k)) (l .answer) 8 (l .i) (a .range + 1 - l .i) (a .range + 1 - (l .i + 1)) (c .circuit-state .result) (omega arith) (c .circuit-state .ensures ∙ ap circuitState (c .before .octet-at .ensures))) ∙ l .inv .2)
 
 same-length : tie.Need-same-length Inv-loop μ-loop
 same-length c = kept (c .before)
@@ -79,7 +80,7 @@ returns : tie.Need-returns Inv-loop μ-loop
 returns c =
     let l = c .before .loop in
     let a = c .before .before .before .before .args in
-    ap (λ (r : List ℕ). sets (l .answer) (8 + l .i) r) (sym (states-done (now (a .group)) (l .i) _ (omega arith))) ∙ l .inv .2
+    ap (λ (r : List ℕ). sets (l .answer) (8 + l .i) r) (sym (tabulate-done (λ k. circuitState (octet (now (a .group)) k)) (l .i) (a .range + 1 - l .i) (omega arith))) ∙ l .inv .2
 
 pub write-states-spec : {M : Type 1} → statement M
 write-states-spec =

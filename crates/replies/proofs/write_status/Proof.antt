@@ -1,4 +1,6 @@
-use Rattle.replies.proofs.Writing.{status-more, status-done, three-stores}
+use Rattle.octets.proofs.Tabulate.{tabulate-more, tabulate-done}
+use Rattle.marks.specs.Marks.{statusOctet}
+use Rattle.replies.proofs.Writing.{three-stores}
 use Rattle.replies.specs.Replies.{statusFrom}
 use lib.Seq.{sets}
 use lib.ListN.{length, length-set}
@@ -72,7 +74,7 @@ loop-again : tie.Need-loop-again Inv-loop μ-loop
 loop-again c =
     let l = c .before .before .loop in
     let a = c .before .before .before .before .before .args in
-    (omega arith, simp length-set (kept (c .before .before)), sym (status-more (a .range) (now (a .status)) (l .answer) (a .at + 3) (l .j) _ _ (c .status-octet .result) (omega arith) (c .status-octet .ensures)) ∙ l .inv .2)
+    (omega arith, simp length-set (kept (c .before .before)), sym (tabulate-more (statusOctet (a .range) (now (a .status))) (l .answer) (a .at + 3) (l .j) (a .range / 8 + 1 - l .j) (a .range / 8 + 1 - (l .j + 1)) (c .status-octet .result) (omega arith) (c .status-octet .ensures)) ∙ l .inv .2)
 
 same-length : tie.Need-same-length Inv-loop μ-loop
 same-length c = kept (c .before)
@@ -81,7 +83,7 @@ returns : tie.Need-returns Inv-loop μ-loop
 returns c =
     let l = c .before .loop in
     let a = c .before .before .before .before .args in
-    ap (λ (r : List ℕ). sets (l .answer) (a .at + 3 + l .j) r) (sym (status-done (a .range) (now (a .status)) (l .j) _ (omega arith))) ∙ l .inv .2 ∙ three-stores (now (a .answer)) (a .at) 1 (1 + (a .range / 8 + 1)) (a .range) (statusFrom (a .range) (now (a .status)) 0 (a .range / 8 + 1))
+    ap (λ (r : List ℕ). sets (l .answer) (a .at + 3 + l .j) r) (sym (tabulate-done (statusOctet (a .range) (now (a .status))) (l .j) (a .range / 8 + 1 - l .j) (omega arith))) ∙ l .inv .2 ∙ three-stores (now (a .answer)) (a .at) 1 (1 + (a .range / 8 + 1)) (a .range) (statusFrom (a .range) (now (a .status)) 0 (a .range / 8 + 1))
 
 pub write-status-spec : {M : Type 1} → statement M
 write-status-spec =

@@ -58,8 +58,16 @@ unfolding rowIn keyOf digitsOf lettersAll letterOf
 returns-13 c = rw (c .match .keys13)
 
 returns-14 : tie.Need-returns-14
+unfolding rowIn keyOf digitsOf lettersAll letterOf
+returns-14 c = rw (c .match .keys14)
+
+returns-15 : tie.Need-returns-15
+unfolding rowIn keyOf digitsOf lettersAll letterOf
+returns-15 c = rw (c .match .keys15)
+
+returns-16 : tie.Need-returns-16
 unfolding keyOf digitsOf lettersAll letterOf
-returns-14 c = row-none forms _ (c .match .rest)
+returns-16 c = row-none forms _ (c .match .rest)
 
 pub row-of-spec : {M : Type 1} → statement M
 row-of-spec =
@@ -78,4 +86,6 @@ row-of-spec =
     returns-11
     returns-12
     returns-13
-    returns-14)
+    returns-14
+    returns-15
+    returns-16)

@@ -17,6 +17,9 @@ mul-result c = search needs
 enum-told-3 : tie.Need-enum-told-3
 enum-told-3 c = search needs
 
+mul-result-2 : tie.Need-mul-result-2
+mul-result-2 c = search needs
+
 enum-told-4 : tie.Need-enum-told-4
 enum-told-4 c = search needs
 
@@ -31,6 +34,9 @@ unblocked-requires c κs = search needs
 
 enum-told-6 : tie.Need-enum-told-6
 enum-told-6 c = search needs
+
+mul-result-3 : tie.Need-mul-result-3
+mul-result-3 c = search needs
 
 enum-told-7 : tie.Need-enum-told-7
 enum-told-7 c = search needs
@@ -91,11 +97,13 @@ changed-spec =
     enum-told-2
     mul-result
     enum-told-3
+    mul-result-2
     enum-told-4
     blocked-requires
     enum-told-5
     unblocked-requires
     enum-told-6
+    mul-result-3
     enum-told-7
     blocked-requires-2
     enum-told-8

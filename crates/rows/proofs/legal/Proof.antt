@@ -30,8 +30,32 @@ returns-6 c = sym (ap isLegal (c .match .keys6))
 
 returns-7 : tie.Need-returns-7
 unfolding isLegal
-returns-7 c = simp (ne-eqb _ _ (c .match .rest .1), ne-eqb _ _ (c .match .rest .0 .1), ne-eqb _ _ (c .match .rest .0 .0 .1), ne-eqb _ _ (c .match .rest .0 .0 .0 .1), ne-eqb _ _ (c .match .rest .0 .0 .0 .0 .1), ne-eqb _ _ (c .match .rest .0 .0 .0 .0 .0 .1))
+returns-7 c = sym (ap isLegal (c .match .keys7))
+
+returns-8 : tie.Need-returns-8
+unfolding isLegal
+returns-8 c = sym (ap isLegal (c .match .keys8))
+
+returns-9 : tie.Need-returns-9
+unfolding isLegal
+returns-9 c = sym (ap isLegal (c .match .keys9))
+
+returns-10 : tie.Need-returns-10
+unfolding isLegal
+returns-10 c = sym (ap isLegal (c .match .keys10))
+
+returns-11 : tie.Need-returns-11
+unfolding isLegal
+returns-11 c = sym (ap isLegal (c .match .keys11))
+
+returns-12 : tie.Need-returns-12
+unfolding isLegal
+returns-12 c = sym (ap isLegal (c .match .keys12))
+
+returns-13 : tie.Need-returns-13
+unfolding isLegal
+returns-13 c = simp (ne-eqb _ _ (c .match .rest .1), ne-eqb _ _ (c .match .rest .0 .1), ne-eqb _ _ (c .match .rest .0 .0 .1), ne-eqb _ _ (c .match .rest .0 .0 .0 .1), ne-eqb _ _ (c .match .rest .0 .0 .0 .0 .1), ne-eqb _ _ (c .match .rest .0 .0 .0 .0 .0 .1), ne-eqb _ _ (c .match .rest .0 .0 .0 .0 .0 .0 .1), ne-eqb _ _ (c .match .rest .0 .0 .0 .0 .0 .0 .0 .1), ne-eqb _ _ (c .match .rest .0 .0 .0 .0 .0 .0 .0 .0 .1), ne-eqb _ _ (c .match .rest .0 .0 .0 .0 .0 .0 .0 .0 .0 .1), ne-eqb _ _ (c .match .rest .0 .0 .0 .0 .0 .0 .0 .0 .0 .0 .1), ne-eqb _ _ (c .match .rest .0 .0 .0 .0 .0 .0 .0 .0 .0 .0 .0 .1))
 
 pub legal-spec : {M : Type 1} → statement M
 legal-spec =
-    tie.close (tie.spec returns returns-2 returns-3 returns-4 returns-5 returns-6 returns-7)
+    tie.close (tie.spec returns returns-2 returns-3 returns-4 returns-5 returns-6 returns-7 returns-8 returns-9 returns-10 returns-11 returns-12 returns-13)

@@ -1,11 +1,10 @@
 use Prim.Native.Nat.{ℕ}
 use mathlib.Core.Path.{_∙_, ap}
 use borrow.Author.Tests.{lt-ltb, le-ltb}
-use Rattle.marks.specs.Marks.{cutTo}
-use Rattle.replies.specs.Replies.{statusOctet}
+use Rattle.marks.specs.Marks.{cutTo, statusOctet}
 use borrow.Author.Needs.{needs}
-use Rattle.replies.proofs.status_octet.Statement.{statement}
-use Rattle.replies.proofs.status_octet.Tie as tie
+use Rattle.marks.proofs.status_octet.Statement.{statement}
+use Rattle.marks.proofs.status_octet.Tie as tie
 
 octet-at-requires : tie.Need-octet-at-requires
 octet-at-requires c κs = search needs

@@ -2,8 +2,8 @@ use mathlib.Core.Path.{sym}
 use denote.Ref.{now}
 use lib.ListN.{List·getD-eq-default}
 use borrow.Author.Needs.{needs}
-use Rattle.replies.proofs.octet_at.Statement.{statement}
-use Rattle.replies.proofs.octet_at.Tie as tie
+use Rattle.rows.proofs.octet_at.Statement.{statement}
+use Rattle.rows.proofs.octet_at.Tie as tie
 
 shared-slice-read-result : tie.Need-shared-slice-read-result
 shared-slice-read-result c = search needs
