@@ -13,3 +13,4 @@ pub mod Among
 pub mod Told
 pub mod Parity
 pub mod Tabulate
+pub mod Doubles
