@@ -91,6 +91,29 @@ def transcripts():
             check(got == wanted, "%s: %s\n  answers %s\n  wanted  %s" % (file.name, request, got, wanted))
 
 
+def days():
+    """The paper's book, and the edges of what a book is."""
+    blo = bytes.fromhex("020013")
+    span = lambda first, last, sender: first.to_bytes(2, "little") + last.to_bytes(2, "little") + bytes([sender])
+    day = lambda spans, sents: len(spans).to_bytes(2, "little") + b"".join(spans) + len(sents).to_bytes(2, "little") + b"".join(
+        bytes([sender]) + len(message).to_bytes(2, "little") + message for sender, message in sents)
+    for data, wanted in (
+            (bytes.fromhex("010001000400070100070300020013"), b"7 1 1 0 0\nall 1 1 0 0\n"),
+            (b"", b"refused 24\n"),
+            (bytes(4), b"all 0 0 0 0\n"),
+            (bytes(5), b"refused 24\n"),
+            (day([span(1, 4, 7), span(5, 5, 7)], [(7, blo), (8, blo), (0, blo), (7, b"")]), b"0 1 0 1 0\n7 2 1 1 0\n8 1 0 1 0\nall 4 1 3 0\n"),
+            (day([span(1, 4, 7), span(4, 5, 8)], []), b"refused 24\n"),
+            (day([span(4, 3, 7)], []), b"refused 24\n"),
+            (day([span(4095, 4095, 255)], []), b"all 0 0 0 0\n"),
+            (day([span(4095, 4096, 255)], []), b"refused 24\n"),
+            (day([span(1, 4, 0)], []), b"refused 24\n"),
+            (day([span(1, 4, 7)], [(7, bytes(268))]), b"7 1 0 1 0\nall 1 0 1 0\n"),
+            (day([span(1, 4, 7)], [(7, bytes(269))]), b"refused 24\n")):
+        got = model.replay(data)
+        check(got == wanted, "the book %s\n  gives  %r\n  wanted %r" % (data.hex()[:60], got, wanted))
+
+
 def stored():
     """The stored case is what the model and the generator make of the stored seed."""
     import store
@@ -116,7 +139,7 @@ def reached():
             check(other != kind or outcome in ["accepted", "bad line"] + numbers, "%s: %s is given" % (kind, outcome))
 
 
-for each in (samples, lines, shapes, transcripts, stored, reached):
+for each in (samples, lines, shapes, transcripts, days, stored, reached):
     each()
 for fault in faults:
     print("FAULT: " + fault)

@@ -650,5 +650,83 @@ def answers(data):
     return b"".join(desk.answer(line) + b"\n" for line in lines(data))
 
 
+# ---------------------------------------------------------------- a recorded day
+
+class Section:
+    """Octets that are taken from their front; None where there are too few."""
+
+    def __init__(self, data):
+        self.rest = data
+
+    def take(self, count):
+        if count is None or len(self.rest) < count:
+            return None
+        taken, self.rest = self.rest[:count], self.rest[count:]
+        return taken
+
+    def number(self):
+        """Two octets, low first."""
+        two = self.take(2)
+        return None if two is None else two[0] + two[1] * 256
+
+
+def book(data):
+    """The spans (first, last, sender) and the messages (sender, octets) of a book; 24: cut off, octets left over, a bad span, a message longer than 268."""
+    data = Section(memoryview(data))
+    spans, messages = [], []
+    count = data.number()
+    if count is None:
+        return 24
+    for _ in range(count):
+        first, last, sender = data.number(), data.number(), data.take(1)
+        if first is None or last is None or sender is None:
+            return 24
+        ascending = not spans or spans[-1][1] < first
+        if not ascending or first > last or last > 4095 or sender[0] == 0:
+            return 24
+        spans.append((first, last, sender[0]))
+    count = data.number()
+    if count is None:
+        return 24
+    for _ in range(count):
+        sender, length = data.take(1), data.number()
+        if sender is None or length is None or length > LONGEST:
+            return 24
+        octets = data.take(length)
+        if octets is None:
+            return 24
+        messages.append((sender[0], bytes(octets)))
+    return 24 if len(data.rest) else (spans, messages)
+
+
+def replay(data):
+    """What is written for a book: each sender's line and the line of the sums, or that it is no book."""
+    got = book(data)
+    if refused(got):
+        return b"refused %d\n" % got
+    spans, messages = got
+    states, owners = bytearray(CIRCUITS), bytearray(CIRCUITS)
+    for first, last, sender in spans:
+        for c in range(first, last + 1):
+            owners[c] = sender
+    sent, took = {}, {}
+    for sender, message in messages:
+        sent[sender] = sent.get(sender, 0) + 1
+        outcome = act(states, owners, sender, message, LONGEST)
+        if refused(outcome):
+            continue
+        took[sender] = took.get(sender, 0) + 1
+        m = read(message).circuit
+        states[m:m + len(outcome[1])] = outcome[1]
+    sums, text = [0, 0, 0, 0], b""
+    for sender in sorted(sent):
+        accepted = took.get(sender, 0)
+        busy = sum(1 for c in range(CIRCUITS) if owners[c] == sender and states[c] & 1)
+        numbers = [sent[sender], accepted, sent[sender] - accepted, busy]
+        sums = [a + b for a, b in zip(sums, numbers)]
+        text += b"%d %d %d %d %d\n" % (sender, *numbers)
+    return text + b"all %d %d %d %d\n" % tuple(sums)
+
+
 if __name__ == "__main__":
     sys.stdout.buffer.write(answers(sys.stdin.buffer.read()))

@@ -55,8 +55,9 @@ use Rattle.number_lines.specs.Numbers.{signalsLine, numberLine, numbersLine}
 use Rattle.velocity_lines.specs.declared.Marked.{Marked}
 use Rattle.velocity_lines.specs.declared.Marked.the-variants.{Is, Not}
 use Rattle.velocity_lines.specs.Velocities.{typedMark, markWord, codesLine, codedLine, wholeIn, courseLine, knownLine, byValue, byMark, velocityLine, velocityLongLine, backLine, backLongLine, codeAt, velocitiesLine}
+use Rattle.octets.specs.Applied.{spread}
 use Rattle.block_lines.specs.Blocks.{noticeLine, blockDone}
-use Rattle.table_lines.specs.Tables.{Turn, turn, Left, left, leftBy, spread, rowsLine, tableTurn, replyLine, actsOf, actTurn}
+use Rattle.table_lines.specs.Tables.{Turn, turn, Left, left, leftBy, rowsLine, tableTurn, replyLine, actsOf, actTurn}
 use Rattle.answers.specs.Turns.{badTurn, blockTurn, turnBy, turnFor, turnOf, turnIn, withLineEnd}
 use Rattle.answers.proofs.Determined.{AnswersLine}
 

@@ -21,8 +21,9 @@ use Rattle.lines.specs.Lines.{refusal, lent}
 use Rattle.codec_lines.specs.Codec.{codecLine}
 use Rattle.number_lines.specs.Numbers.{numbersLine}
 use Rattle.velocity_lines.specs.Velocities.{velocitiesLine}
+use Rattle.octets.specs.Applied.{spread}
 use Rattle.block_lines.specs.Blocks.{blockDone}
-use Rattle.table_lines.specs.Tables.{Turn, turn, spread, rowsLine, tableTurn, actsOf, actTurn}
+use Rattle.table_lines.specs.Tables.{Turn, turn, rowsLine, tableTurn, actsOf, actTurn}
 use Rattle.answers.specs.Turns.{badTurn, blockTurn, turnBy, turnFor, turnOf}
 
 -- an `act` that the hub refuses

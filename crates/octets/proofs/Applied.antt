@@ -1,6 +1,6 @@
 -- A list changed over a span: one step of it, and what it means.
 use mathlib.Core.Path.{_≡_, refl, _∙_, ap}
-use mathlib.Core.List.{List}
+use mathlib.Core.List.{List, [], _∷_}
 use mathlib.Core.Logic.{⊎-elim}
 use Prim.Native.Nat.{ℕ, zero, suc, _+_, _<_, _≤_}
 use native.Mathlib.Nat.{eq-or-lt-of-le}
@@ -57,3 +57,9 @@ applied-alike f g k zero l h = refl
 applied-alike f g k (suc n) l h =
     ap (λ (v : ℕ). applied f (suc k) n (set l k v)) (h k (getD l k 0) (omega arith) (omega arith))
     ∙ applied-alike f g (suc k) n (set l k (g k (getD l k 0))) (λ i v p q. h i v (omega arith) (omega arith))
+
+-- a store past the end is none
+pub set-beyond : (l : List ℕ) (k v : ℕ) → length l ≤ k → set l k v ≡ l
+set-beyond [] k v h = refl
+set-beyond (x ∷ xs) zero v h = absurd (omega arith)
+set-beyond (x ∷ xs) (suc k) v h = ap (λ r. x ∷ r) (set-beyond xs k v (omega arith))

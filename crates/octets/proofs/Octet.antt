@@ -1,12 +1,12 @@
 -- A stretch of octets, by its octets.
-use Prim.Native.Nat.{ℕ, _+_, _-_, _≤_, _<_}
-use mathlib.Core.Path.{_≡_, sym, _∙_, ap, subst}
+use Prim.Native.Nat.{ℕ, zero, suc, _+_, _-_, _≤_, _<_}
+use mathlib.Core.Path.{_≡_, refl, sym, _∙_, ap, subst}
 use mathlib.Core.List.{List, [], _∷_, _++_}
 use native.Mathlib.Omega.{arith}
 use native.Mathlib.Decide.{decLt}
-use lib.ListN.{length, drop, length-drop, length-append, List·getD-append}
+use lib.ListN.{length, drop, replicate, length-drop, length-append, List·getD-append, List·getD-eq-default}
 use lib.Seq.{length-take-le, getD-take, getD-drop, getD-append-add, take-all, ext-getD}
-use Rattle.octets.specs.Octet.{octet, octets}
+use Rattle.octets.specs.Octet.{octet, octets, AllOctets}
 
 pub length-octets : (m : List ℕ) (i n : ℕ) → i + n ≤ length m → length (octets m i n) ≡ n
 length-octets m i n h = length-take-le n (drop i m) (omega (arith, length-drop i m))
@@ -90,3 +90,20 @@ within-stretch m u n h =
 -- what stands in a message from its start to its end is the message
 pub within-whole : {m r : List ℕ} → Within m 0 r → length m ≡ length r → m ≡ r
 within-whole {m} {r} x e = sym (take-all (length r) m (omega arith)) ∙ within-all x
+
+-- ---- of octets, the front and the rest are octets
+pub octets-left : (a b : List ℕ) {xs : List ℕ} → a ++ b ≡ xs → AllOctets xs → AllOctets a
+octets-left a b e o i = go (decLt i (length a))
+  where
+    go : Dec (i < length a) → octet a i < 256
+    go (yes h) = subst (λ (x : ℕ). x < 256) (ap (λ (l : List ℕ). octet l i) (sym e) ∙ List·getD-append a b 0 i h) (o i)
+    go (no h) = omega (arith, List·getD-eq-default a 0 {n = i} (omega arith))
+
+pub octets-right : (a b : List ℕ) {xs : List ℕ} → a ++ b ≡ xs → AllOctets xs → AllOctets b
+octets-right a b e o i = subst (λ (x : ℕ). x < 256) (ap (λ (l : List ℕ). octet l (length a + i)) (sym e) ∙ getD-append-add a b i 0) (o (length a + i))
+
+-- of zeros, each is 0
+pub zero-at : (n i : ℕ) → octet (replicate n 0) i ≡ 0
+zero-at zero i = refl
+zero-at (suc n) zero = refl
+zero-at (suc n) (suc i) = zero-at n i

@@ -2,20 +2,15 @@
 use Prim.Native.Nat.{ℕ, zero, suc, _+_, _-_, _≤_, _<_}
 use mathlib.Core.Path.{_≡_, refl, sym, _∙_, ap}
 use mathlib.Core.Bool.{Bool, true, false}
-use mathlib.Core.List.{List, [], _∷_}
+use mathlib.Core.List.{List}
 use native.Mathlib.Omega.{arith}
 use borrow.Author.Tests.{ltb-true, ltb-false}
 use lib.Dec.{ltb}
 use lib.ListN.{length, getD, set, length-set}
 use Rattle.octets.specs.Choice.{if_then_else_}
 use Rattle.octets.specs.Applied.{applied}
+use Rattle.octets.proofs.Applied.{set-beyond}
 use Rattle.table_lines.specs.Inside.{spanEnd}
-
--- a store past the end is none
-set-beyond : (l : List ℕ) (k v : ℕ) → length l ≤ k → set l k v ≡ l
-set-beyond [] k v h = refl
-set-beyond (x ∷ xs) zero v h = absurd (omega arith)
-set-beyond (x ∷ xs) (suc k) v h = ap (λ r. x ∷ r) (set-beyond xs k v (omega arith))
 
 applied-beyond : (f : ℕ → ℕ → ℕ) (k n : ℕ) (l : List ℕ) → length l ≤ k → applied f k n l ≡ l
 unfolding applied

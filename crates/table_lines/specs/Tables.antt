@@ -6,7 +6,7 @@ use lib.ListN.{take}
 use Rattle.octets.specs.Octet.{octets}
 use Rattle.octets.specs.Choice.{if_then_else_}
 use Rattle.octets.specs.Answer.{Answer, accepted, refused}
-use Rattle.octets.specs.Applied.{applied}
+use Rattle.octets.specs.Applied.{spread}
 use Rattle.hub.specs.Tables.{Tables, tables}
 use Rattle.hub.specs.Acts.{After, actOf}
 use Rattle.words.specs.Said.{said}
@@ -37,10 +37,6 @@ left T sheet = record { tables = T; sheet = sheet }
 -- the answer's line on the sheet
 abbrev pub leftBy : Turn → Sheet → Left
 leftBy t sheet = left (t .tables) (pour sheet (t .line))
-
--- a table whose entries from the first to the last are that octet
-abbrev pub spread : List ℕ → ℕ → ℕ → ℕ → List ℕ
-spread table first last octet = applied (λ place old. octet) first (last + 1 - first) table
 
 -- rows 00020100, an octet for each
 abbrev pub rowsLine : List ℕ → ℕ → ℕ → List ℕ

@@ -4,9 +4,8 @@ use native.Mathlib.Omega.{arith}
 use borrow.Author.Needs.{needs}
 use denote.Ref.{now}
 use lib.ListN.{length, length-set}
-use Rattle.octets.specs.Applied.{applied}
+use Rattle.octets.specs.Applied.{applied, spread}
 use Rattle.octets.proofs.Applied.{applied-none, applied-more}
-use Rattle.table_lines.specs.Tables.{spread}
 use Rattle.table_lines.specs.Inside.{spanEnd}
 use Rattle.table_lines.proofs.Spread.{end-reached, end-within}
 use Rattle.table_lines.proofs.spread_over.Statement.{statement}

@@ -1,0 +1,7 @@
+pub mod Spans
+pub mod One
+pub mod Parts
+pub mod Judged
+pub mod Faulted
+pub mod Determined
+pub mod Refutations

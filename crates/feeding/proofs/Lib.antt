@@ -1,0 +1,12 @@
+pub mod Feeding
+pub mod Forward
+pub mod Counts
+pub mod Backward
+pub mod Replays
+pub mod Sample
+pub mod Told
+pub mod Runs
+pub mod Determined
+pub mod Alone
+pub mod Owners
+pub mod Exactly

@@ -1,0 +1,148 @@
+use mathlib.Core.Path.{_≡_}
+use borrow.Author.Needs.{needs}
+use lib.ListN.{length}
+use Rattle.replay.proofs.read_all.Statement.{statement}
+use Rattle.replay.proofs.read_all.Tie as tie
+
+abbrev Inv-loop : tie.InvT-loop
+Inv-loop chunk₀ buffer₀ owners₀ states₀ accepted₀ refused₀ at₀ turns₀ t12 chunk buffer owners states accepted refused at turns =
+    (length chunk ≡ length chunk₀) × (length buffer ≡ length buffer₀) × (length owners ≡ length owners₀) × (length states ≡ length states₀) × (length accepted ≡ length accepted₀) × (length refused ≡ length refused₀)
+
+abbrev μ-loop : tie.MeasureT-loop
+μ-loop chunk₀ buffer₀ owners₀ states₀ accepted₀ refused₀ at₀ turns₀ t12 chunk buffer owners states accepted refused at turns =
+    turns
+
+loop-holds : tie.Need-loop-holds Inv-loop μ-loop
+loop-holds c = search needs
+
+read-requires : tie.Need-read-requires Inv-loop μ-loop
+read-requires c κs = search needs
+
+slice-aggregate-tell : tie.Need-slice-aggregate-tell Inv-loop μ-loop
+slice-aggregate-tell c = search needs
+
+tell-requires : tie.Need-tell-requires Inv-loop μ-loop
+tell-requires c κs = search needs
+
+same-length : tie.Need-same-length Inv-loop μ-loop
+same-length c = search needs
+
+same-length-2 : tie.Need-same-length-2 Inv-loop μ-loop
+same-length-2 c = search needs
+
+same-length-3 : tie.Need-same-length-3 Inv-loop μ-loop
+same-length-3 c = search needs
+
+same-length-4 : tie.Need-same-length-4 Inv-loop μ-loop
+same-length-4 c = search needs
+
+same-length-5 : tie.Need-same-length-5 Inv-loop μ-loop
+same-length-5 c = search needs
+
+same-length-6 : tie.Need-same-length-6 Inv-loop μ-loop
+same-length-6 c = search needs
+
+returns : tie.Need-returns Inv-loop μ-loop
+returns c = search needs
+
+same-length-7 : tie.Need-same-length-7 Inv-loop μ-loop
+same-length-7 c = search needs
+
+same-length-8 : tie.Need-same-length-8 Inv-loop μ-loop
+same-length-8 c = search needs
+
+same-length-9 : tie.Need-same-length-9 Inv-loop μ-loop
+same-length-9 c = search needs
+
+same-length-10 : tie.Need-same-length-10 Inv-loop μ-loop
+same-length-10 c = search needs
+
+same-length-11 : tie.Need-same-length-11 Inv-loop μ-loop
+same-length-11 c = search needs
+
+same-length-12 : tie.Need-same-length-12 Inv-loop μ-loop
+same-length-12 c = search needs
+
+returns-2 : tie.Need-returns-2 Inv-loop μ-loop
+returns-2 c = search needs
+
+count-requires : tie.Need-count-requires Inv-loop μ-loop
+count-requires c κs = search needs
+
+slice-reshare-prefix-feed : tie.Need-slice-reshare-prefix-feed Inv-loop μ-loop
+slice-reshare-prefix-feed c = search needs
+
+slice-aggregate-feed : tie.Need-slice-aggregate-feed Inv-loop μ-loop
+slice-aggregate-feed c = search needs
+
+feed-requires : tie.Need-feed-requires Inv-loop μ-loop
+feed-requires c κs = search needs
+
+sub-turns : tie.Need-sub-turns Inv-loop μ-loop
+sub-turns c = search needs
+
+loop-less : tie.Need-loop-less Inv-loop μ-loop
+loop-less c = search needs
+
+loop-again : tie.Need-loop-again Inv-loop μ-loop
+loop-again c = search needs
+
+same-length-13 : tie.Need-same-length-13 Inv-loop μ-loop
+same-length-13 c = search needs
+
+same-length-14 : tie.Need-same-length-14 Inv-loop μ-loop
+same-length-14 c = search needs
+
+same-length-15 : tie.Need-same-length-15 Inv-loop μ-loop
+same-length-15 c = search needs
+
+same-length-16 : tie.Need-same-length-16 Inv-loop μ-loop
+same-length-16 c = search needs
+
+same-length-17 : tie.Need-same-length-17 Inv-loop μ-loop
+same-length-17 c = search needs
+
+same-length-18 : tie.Need-same-length-18 Inv-loop μ-loop
+same-length-18 c = search needs
+
+returns-3 : tie.Need-returns-3 Inv-loop μ-loop
+returns-3 c = search needs
+
+pub read-all-spec : {M : Type 1} → statement M
+read-all-spec =
+    tie.close
+    (tie.spec
+    Inv-loop
+    μ-loop
+    loop-holds
+    read-requires
+    slice-aggregate-tell
+    tell-requires
+    same-length
+    same-length-2
+    same-length-3
+    same-length-4
+    same-length-5
+    same-length-6
+    returns
+    same-length-7
+    same-length-8
+    same-length-9
+    same-length-10
+    same-length-11
+    same-length-12
+    returns-2
+    count-requires
+    slice-reshare-prefix-feed
+    slice-aggregate-feed
+    feed-requires
+    sub-turns
+    loop-less
+    loop-again
+    same-length-13
+    same-length-14
+    same-length-15
+    same-length-16
+    same-length-17
+    same-length-18
+    returns-3)

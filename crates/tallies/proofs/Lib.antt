@@ -1,0 +1,3 @@
+pub mod Reported
+pub mod Fits
+pub mod Determined
