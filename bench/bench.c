@@ -12,6 +12,8 @@ void bench_none(void);
 typedef uint32_t reading(const uint8_t *, size_t, uint16_t *, size_t);
 typedef uint32_t writing(uint32_t, uint32_t, const uint8_t *, size_t, const uint8_t *, size_t, const uint8_t *, size_t,
                          const uint8_t *, size_t, uint8_t *, size_t);
+typedef uint32_t compacting(const uint8_t *, size_t, uint8_t *, size_t);
+typedef uint32_t calling(const uint8_t *, size_t, uint32_t *, size_t);
 typedef uint32_t finding(const uint8_t *, size_t, const uint8_t *, size_t, uint32_t, size_t *, size_t);
 typedef uint64_t numbering(const uint8_t *, size_t, uint8_t *, size_t);
 typedef uint32_t number_writing(uint32_t, uint32_t, uint32_t, const uint8_t *, size_t, uint8_t *, size_t);
@@ -100,10 +102,12 @@ int main(int count, char **words)
         calls = 10 * calls + (unsigned)(*c - '0');
 
     uint16_t parts[10] = {0}, parts_of_plain[10] = {0};
-    uint8_t out[268] = {0}, out_of_plain[268] = {0};
+    uint32_t values[10] = {0}, values_of_plain[10] = {0};
+    uint8_t out[270] = {0}, out_of_plain[270] = {0}, call[270] = {0x01, 0x02, 0x03, 0x04};
     size_t stretch[2] = {0}, stretch_of_plain[2];
     static uint8_t states_of_plain[4096];
     memset(owners, 7, sizeof owners);
+    memcpy(call + 4, m + 2, length - 2); /* the same message of BICC */
     uint32_t reading_answer = llachurep_read(m, length, parts, 10);
     if (plain_read(m, length, parts_of_plain, 10) != reading_answer || memcmp(parts, parts_of_plain, sizeof parts) != 0)
         return 1;
@@ -126,6 +130,41 @@ int main(int count, char **words)
         for (unsigned i = 0; i < calls; i++)
             sink += f(parts[0], parts[1], fixed, parts[3], first, parts[5], second, parts[7], optional, parts[9], out,
                       sizeof out);
+    } else if (strcmp(function, "compact") == 0) {
+        uint32_t size = llachurep_compact(m, length, out, sizeof out);
+        if (size != length || memcmp(out, m, length) != 0 ||
+            plain_compact(m, length, out_of_plain, sizeof out) != size || memcmp(out_of_plain, m, length) != 0)
+            return 1;
+        compacting *volatile f = PICK(compacting, compact);
+        for (unsigned i = 0; i < calls; i++)
+            sink += f(m, length, out, sizeof out);
+    } else if (strcmp(function, "bicc_read") == 0) {
+        if (llachurep_bicc_read(call, length + 2, values, 10) != 10 ||
+            plain_bicc_read(call, length + 2, values_of_plain, 10) != 10 || memcmp(values, values_of_plain, sizeof values) != 0)
+            return 1;
+        calling *volatile f = PICK(calling, bicc_read);
+        for (unsigned i = 0; i < calls; i++)
+            sink += f(call, length + 2, values, 10);
+    } else if (strcmp(function, "bicc_write") == 0) {
+        const uint8_t *fixed = m + parts[2], *first = m + parts[4], *second = m + parts[6], *optional = m + parts[8];
+        uint32_t size = llachurep_bicc_write(0x04030201, parts[1], fixed, parts[3], first, parts[5], second, parts[7],
+                                             optional, parts[9], out, sizeof out);
+        if (size != length + 2 || memcmp(out, call, length + 2) != 0 ||
+            plain_bicc_write(0x04030201, parts[1], fixed, parts[3], first, parts[5], second, parts[7], optional, parts[9],
+                             out_of_plain, sizeof out) != size || memcmp(out_of_plain, call, length + 2) != 0)
+            return 1;
+        writing *volatile f = PICK(writing, bicc_write);
+        for (unsigned i = 0; i < calls; i++)
+            sink += f(0x04030201, parts[1], fixed, parts[3], first, parts[5], second, parts[7], optional, parts[9], out,
+                      sizeof out);
+    } else if (strcmp(function, "bicc_compact") == 0) {
+        uint32_t size = llachurep_bicc_compact(call, length + 2, out, sizeof out);
+        if (size != length + 2 || memcmp(out, call, length + 2) != 0 ||
+            plain_bicc_compact(call, length + 2, out_of_plain, sizeof out) != size || memcmp(out_of_plain, call, length + 2) != 0)
+            return 1;
+        compacting *volatile f = PICK(compacting, bicc_compact);
+        for (unsigned i = 0; i < calls; i++)
+            sink += f(call, length + 2, out, sizeof out);
     } else if (strcmp(function, "find") == 0) {
         if (llachurep_find(m, length, 0, 0, last_name, stretch, 2) != 0 ||
             plain_find(m, length, 0, 0, last_name, stretch_of_plain, 2) != 0 ||

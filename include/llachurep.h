@@ -1,4 +1,4 @@
-/* llachurep.h: ISUP messages, the hub's circuit table and velocities, for C (C99) and C++.
+/* llachurep.h: ISUP and BICC messages, the hub's circuit table and velocities, for C (C99) and C++.
  *
  * The library is target/staticlib/libllachurep.a, made by tools/staticlib, for x86-64.
  * Every function is proved to answer as the paper says (docs/PROMISES.md), and touches nothing but what it is lent.
@@ -12,7 +12,8 @@
  * below: an answer is not to be compared with 65536 * N. (llachurep_number_read answers 64 bits: its N stands above the
  * low 32, and it has no place.)
  *
- * The octet that a reader's refusal is about, in llachurep_read, _compact, _find and _act: 3 the type octet; 4 the
+ * The octet that a reader's refusal is about, in llachurep_read, _compact, _find and _act and in
+ * llachurep_bicc_read and _compact: 3 the type octet; 4 the
  * message's length; 5 the pointer; 6 the length octet; 7 the name octet of the parameter that failed, or the message's
  * length where a name was due and the message ended; 8 the later start of the first two parts that share an octet.
  *
@@ -38,8 +39,8 @@
 
 /* The refusals' numbers. */
 enum {
-    LLACHUREP_TOO_SHORT = 1,         /* under 3 octets */
-    LLACHUREP_TOO_LONG = 2,          /* over 268 octets */
+    LLACHUREP_TOO_SHORT = 1,         /* under 3 octets, of BICC under 5 */
+    LLACHUREP_TOO_LONG = 2,          /* over 268 octets, of BICC over 270 */
     LLACHUREP_NO_TYPE = 3,           /* type not in the table */
     LLACHUREP_CUT = 4,               /* fixed part or pointers cut off by the message's end */
     LLACHUREP_POINTER = 5,           /* a pointer that may not be */
@@ -62,9 +63,10 @@ enum {
     LLACHUREP_VELOCITY = 26          /* a value that is no number, infinite or below zero; a bearing from 360 up */
 };
 
-/* What llachurep_read puts into parts[0] to parts[9]. Starts count from the message's first octet. */
+/* What llachurep_read and llachurep_bicc_read put into parts[0] to parts[9]. Starts count from the message's first octet. */
 enum {
     LLACHUREP_PART_CIRCUIT = 0,
+    LLACHUREP_PART_CODE = 0,         /* of llachurep_bicc_read */
     LLACHUREP_PART_TYPE = 1,
     LLACHUREP_PART_FIXED = 2,        /* start, then length */
     LLACHUREP_PART_FIRST = 4,        /* start, then length; past the length octet */
@@ -96,6 +98,23 @@ uint32_t llachurep_write(uint32_t circuit, uint32_t type, const uint8_t *fixed, 
  * out; the rest of out stays.
  * Refused: as llachurep_read, but for its 13; then 12, 13. */
 uint32_t llachurep_compact(const uint8_t *message, size_t length, uint8_t *out, size_t out_length);
+
+/* Reads a BICC message: a call instance code of four octets, the least significant first, then the type, and from there on
+ * as in ISUP. Of ISUP's types BLO, UBL, BLA and UBA are none of BICC's. Accepted: v is 10, and parts[0] to parts[9] are the
+ * code, the type, then start and length of the fixed part, of the first and of the second contents, and of the optional
+ * run, each 0, 0 where there is none; further elements stay.
+ * Refused: as llachurep_read. */
+uint32_t llachurep_bicc_read(const uint8_t *message, size_t length, uint32_t *parts, size_t count);
+
+/* Writes a BICC message in its compact form, as llachurep_write. Any number is a code, so there is no 9.
+ * Refused: 3, 10, 11, 12, 2, 13. */
+uint32_t llachurep_bicc_write(uint32_t code, uint32_t type, const uint8_t *fixed, size_t fixed_length,
+                              const uint8_t *first, size_t first_length, const uint8_t *second, size_t second_length,
+                              const uint8_t *optional, size_t optional_length, uint8_t *out, size_t out_length);
+
+/* Reads a BICC message and writes it again in its compact form, as llachurep_compact.
+ * Refused: as llachurep_bicc_read, but for its 13; then 12, 13. */
+uint32_t llachurep_bicc_compact(const uint8_t *message, size_t length, uint8_t *out, size_t out_length);
 
 /* Finds the first parameter of that name in the message's optional part, else in the defaults, which are an optional run
  * without closing 0. Accepted: v is 0 where the message held it and 100 where the defaults did; stretch[0] and

@@ -151,23 +151,39 @@ static void octets(const char *word, uint32_t answer, int placed)
 }
 
 /* The boundary has no question for the shape; what the writer takes shows it. */
-static unsigned tried(uint32_t type, size_t fixed, size_t first, size_t second, size_t optional)
+static unsigned tried(int bicc, uint32_t type, size_t fixed, size_t first, size_t second, size_t optional)
 {
     static const uint8_t zeros[5], run[2] = {1, 0};
-    return CALL(write)(0, type, zeros, fixed, zeros, first, zeros, second, run, optional, out, OCTETS) >> 16;
+    return (bicc ? CALL(bicc_write) : CALL(write))(0, type, zeros, fixed, zeros, first, zeros, second, run, optional, out,
+                                                   OCTETS) >> 16;
 }
 
-static void shape(uint32_t type)
+static void shape(int bicc, uint32_t type)
 {
     size_t fixed = 0;
-    if (tried(type, 0, 0, 0, 0) == 3) {
+    if (tried(bicc, type, 0, 0, 0, 0) == 3) {
         printf("refused 3\n");
         return;
     }
-    while (tried(type, fixed, 0, 0, 0))
+    while (tried(bicc, type, fixed, 0, 0, 0))
         fixed++;
     printf("fixed %u variable %u optional %s\n", (unsigned)fixed,
-           !tried(type, fixed, 1, 0, 0) + !tried(type, fixed, 0, 1, 0), tried(type, fixed, 0, 0, 2) ? "no" : "yes");
+           !tried(bicc, type, fixed, 1, 0, 0) + !tried(bicc, type, fixed, 0, 1, 0),
+           tried(bicc, type, fixed, 0, 0, 2) ? "no" : "yes");
+}
+
+/* The parts of a message, by its ten numbers. */
+static void parts(const char *word, const uint8_t *message, const uint32_t *p)
+{
+    printf("%s %u type %02x fixed ", word, p[0], p[1]);
+    hex(message + p[2], p[3]);
+    printf(" first ");
+    hex(message + p[4], p[5]);
+    printf(" second ");
+    hex(message + p[6], p[7]);
+    printf(" optional ");
+    hex(message + p[8], p[9]);
+    printf("\n");
 }
 
 /* The codes of a velocity, or the values that codes stand for, in the same words. */
@@ -190,7 +206,7 @@ static void answer(size_t length)
     unsigned vertical;
     const struct field *f = fields;
     if (is(length, "shape", "t")) {
-        shape(f[0].number);
+        shape(0, f[0].number);
     } else if (is(length, "read", "o")) {
         uint16_t p[10];
         uint32_t got = CALL(read)(f[0].octets, f[0].count, p, 10);
@@ -198,15 +214,10 @@ static void answer(size_t length)
             refused(got, 1);
             return;
         }
-        printf("circuit %u type %02x fixed ", p[0], p[1]);
-        hex(f[0].octets + p[2], p[3]);
-        printf(" first ");
-        hex(f[0].octets + p[4], p[5]);
-        printf(" second ");
-        hex(f[0].octets + p[6], p[7]);
-        printf(" optional ");
-        hex(f[0].octets + p[8], p[9]);
-        printf("\n");
+        uint32_t wide[10];
+        for (int i = 0; i < 10; i++)
+            wide[i] = p[i];
+        parts("circuit", f[0].octets, wide);
     } else if (is(length, "write", "ntoooor")) {
         octets("octets", CALL(write)(f[0].number, f[1].number, f[2].octets, f[2].count, f[3].octets, f[3].count,
                                      f[4].octets, f[4].count, f[5].octets, f[5].count, out, f[6].number), 0);
@@ -222,6 +233,21 @@ static void answer(size_t length)
         printf(got ? "defaults " : "message ");
         hex(f[got ? 2 : 1].octets + s[0], s[1]);
         printf("\n");
+    } else if (is(length, "bicc-shape", "t")) {
+        shape(1, f[0].number);
+    } else if (is(length, "bicc-read", "o")) {
+        uint32_t p[10];
+        uint32_t got = CALL(bicc_read)(f[0].octets, f[0].count, p, 10);
+        if (REFUSAL(got)) {
+            refused(got, 1);
+            return;
+        }
+        parts("code", f[0].octets, p);
+    } else if (is(length, "bicc-write", "ntoooor")) {
+        octets("octets", CALL(bicc_write)(f[0].number, f[1].number, f[2].octets, f[2].count, f[3].octets, f[3].count,
+                                          f[4].octets, f[4].count, f[5].octets, f[5].count, out, f[6].number), 0);
+    } else if (is(length, "bicc-compact", "or")) {
+        octets("octets", CALL(bicc_compact)(f[0].octets, f[0].count, out, f[1].number), 1);
     } else if (is(length, "number", "or")) {
         uint64_t got = CALL(number_read)(f[0].octets, f[0].count, out, f[1].number);
         if (NUMBER_REFUSAL(got)) {

@@ -297,6 +297,98 @@ uint32_t plain_compact(const uint8_t *message, size_t length, uint8_t *out, size
                    message + x.optional.start, x.optional.length, out, room);
 }
 
+/* ------------------------------------------------------------------------------------------------ BICC */
+
+/* From its third octet on a BICC message is one of ISUP's, two octets of code in the circuit number's place: each place is two
+ * octets further on, and the longest has two octets more. Four types are ISUP's alone. */
+static int isup_only(unsigned type)
+{
+    return type == BLO || type == UBL || type == BLA || type == UBA;
+}
+
+/* The reader's numbers, with their octets. */
+static uint32_t parse_call(const uint8_t *octets, size_t length, struct message *x)
+{
+    if (length < 2 + SHORTEST)
+        return refusal(1);
+    if (length <= 2 + LONGEST && isup_only(octets[4]))
+        return placed(3, 4);
+    uint32_t fault = parse(octets + 2, length - 2, x);
+    return fault >> 16 < 3 ? fault : fault + 2;
+}
+
+/* A start in the whole message; nothing stands at 0. */
+static uint32_t moved(unsigned start)
+{
+    return start ? start + 2 : 0;
+}
+
+uint32_t plain_bicc_read(const uint8_t *message, size_t length, uint32_t *parts, size_t count)
+{
+    struct message x;
+    uint32_t fault = parse_call(message, length, &x);
+    if (fault)
+        return fault;
+    if (count < 10)
+        return refusal(13);
+    parts[0] = message[0] | (uint32_t)message[1] << 8 | (uint32_t)message[2] << 16 | (uint32_t)message[3] << 24;
+    parts[1] = x.type;
+    parts[2] = moved(x.fixed.start);
+    parts[3] = x.fixed.length;
+    parts[4] = moved(x.variable[0].start);
+    parts[5] = x.variable[0].length;
+    parts[6] = moved(x.variable[1].start);
+    parts[7] = x.variable[1].length;
+    parts[8] = moved(x.optional.start);
+    parts[9] = x.optional.length;
+    return 10;
+}
+
+/* The low two octets of the code, then what ISUP's writer makes with the high two. */
+static uint32_t compose_call(uint32_t code, uint32_t type, const uint8_t *fixed, const uint8_t *first,
+                             size_t first_length, const uint8_t *second, size_t second_length, const uint8_t *optional,
+                             size_t optional_length, uint8_t *out, size_t room)
+{
+    size_t left = room < 2 ? 0 : room - 2;
+    uint32_t size = compose(code >> 16, type, shapes[type], fixed, first, first_length, second, second_length, optional,
+                            optional_length, left ? out + 2 : out, left);
+    if (size >> 16)
+        return size;
+    out[0] = (uint8_t)code;
+    out[1] = (uint8_t)(code >> 8);
+    return size + 2;
+}
+
+/* 3, 10, 11, 12, 2, 13. */
+uint32_t plain_bicc_write(uint32_t code, uint32_t type, const uint8_t *fixed, size_t fixed_length, const uint8_t *first,
+                          size_t first_length, const uint8_t *second, size_t second_length, const uint8_t *optional,
+                          size_t optional_length, uint8_t *out, size_t room)
+{
+    if (type > 255 || !shapes[type].known || isup_only(type))
+        return refusal(3);
+    struct shape row = shapes[type];
+    if (fixed_length != row.fixed || (first_length && row.variable < 1) || (second_length && row.variable < 2) ||
+        (optional_length && !row.optional))
+        return refusal(10);
+    if (walk(optional, optional_length))
+        return refusal(11);
+    return compose_call(code, type, fixed, first, first_length, second, second_length, optional, optional_length, out,
+                        room);
+}
+
+/* The reader's, 12, 13. */
+uint32_t plain_bicc_compact(const uint8_t *message, size_t length, uint8_t *out, size_t room)
+{
+    struct message x;
+    uint32_t fault = parse_call(message, length, &x);
+    if (fault)
+        return fault;
+    const uint8_t *m = message + 2;
+    uint32_t code = message[0] | (uint32_t)message[1] << 8 | (uint32_t)message[2] << 16 | (uint32_t)message[3] << 24;
+    return compose_call(code, x.type, m + x.fixed.start, m + x.variable[0].start, x.variable[0].length,
+                        m + x.variable[1].start, x.variable[1].length, m + x.optional.start, x.optional.length, out, room);
+}
+
 /* ------------------------------------------------------------------------------------------------ called numbers */
 
 /* 14, 13. */

@@ -1,4 +1,4 @@
-/* Document 01 in plain C: the boundary's functions once more, under the name plain_. */
+/* Documents 01 and 02 in plain C: the boundary's functions once more, under the name plain_. */
 #ifndef PLAIN_H
 #define PLAIN_H
 
@@ -18,6 +18,11 @@ uint32_t plain_number_write(uint32_t nature, uint32_t plan, uint32_t internal, c
 uint32_t plain_act(uint8_t *states, size_t states_length, const uint8_t *owners, size_t owners_length, uint32_t sender,
                    const uint8_t *message, size_t length, uint8_t *answer, size_t room);
 uint32_t plain_block(uint8_t *states, size_t states_length, uint32_t circuit, uint32_t set, uint8_t *answer, size_t room);
+uint32_t plain_bicc_read(const uint8_t *message, size_t length, uint32_t *parts, size_t count);
+uint32_t plain_bicc_write(uint32_t code, uint32_t type, const uint8_t *fixed, size_t fixed_length, const uint8_t *first,
+                          size_t first_length, const uint8_t *second, size_t second_length, const uint8_t *optional,
+                          size_t optional_length, uint8_t *out, size_t room);
+uint32_t plain_bicc_compact(const uint8_t *message, size_t length, uint8_t *out, size_t room);
 uint32_t plain_velocity_code(double bearing, double speed, uint16_t *codes, size_t count);
 uint32_t plain_velocity_code_vertical(double bearing, double speed, double vertical, uint16_t *codes, size_t count);
 uint32_t plain_velocity_read(uint32_t bearing, uint32_t speed, double *values, size_t count);

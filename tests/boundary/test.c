@@ -12,13 +12,15 @@
 
 enum { MESSAGES = 200000, SHOWN = 10 };
 
-enum { READ, WRITE, COMPACT, FIND, NUMBER_READ, NUMBER_WRITE, ACT, BLOCK, VELOCITY_CODE, VELOCITY_VERTICAL, VELOCITY_READ, FUNCTIONS };
+enum { READ, WRITE, COMPACT, FIND, NUMBER_READ, NUMBER_WRITE, ACT, BLOCK, VELOCITY_CODE, VELOCITY_VERTICAL, VELOCITY_READ, BICC_READ,
+       BICC_WRITE, BICC_COMPACT, FUNCTIONS };
 static const char *const names[FUNCTIONS] = {"read", "write", "compact", "find", "number_read", "number_write", "act", "block",
-                                             "velocity", "vertical", "velocity_read"};
+                                             "velocity", "vertical", "velocity_read", "bicc_read", "bicc_write",
+                                             "bicc_compact"};
 
 static unsigned long checks, failures;
 static unsigned long seen[FUNCTIONS][32];
-static unsigned long types_read[256], types_acted[256];
+static unsigned long types_read[256], types_acted[256], types_called[256];
 
 /* ------------------------------------------------------------------------------------------------ chance, always alike */
 
@@ -269,6 +271,69 @@ static uint32_t try_write(const struct given *w, size_t room)
                                   at(theirs, o, room), room);
     if (!settle(WRITE, got, wanted, got >> 16, o, got & 65535) && failures <= SHOWN) {
         printf("  circuit %u, type %u, room %u\n", w->circuit, w->type, (unsigned)room);
+        show("fixed", w->fixed, w->fixed_length);
+        show("first", w->first, w->first_length);
+        show("second", w->second, w->second_length);
+        show("optional", w->optional, w->optional_length);
+    }
+    return got;
+}
+
+static uint32_t try_bicc_read(const uint8_t *message, size_t length, size_t count)
+{
+    enum { EDGE = 12 };
+    uint32_t mine[2 * EDGE + 16], other[2 * EDGE + 16], old[2 * EDGE + 16];
+    for (size_t i = 0; i < 2 * EDGE + 16; i++)
+        mine[i] = other[i] = old[i] = (uint32_t)(4000000000u + 77 * i);
+    begin();
+    size_t m = lend(message, length);
+    ready();
+    int null = count == 0 && null_if_empty;
+    uint32_t got = llachurep_bicc_read(in(m, length), length, null ? NULL : mine + EDGE, count);
+    uint32_t wanted = plain_bicc_read(at(theirs, m, length), length, null ? NULL : other + EDGE, count);
+    if (got >> 16 == 0) {
+        memcpy(old + EDGE, mine + EDGE, 10 * sizeof old[0]);
+        types_called[message[4]]++;
+    }
+    if (!settle(BICC_READ, got, wanted, got >> 16, 0, 0))
+        show("message", message, length);
+    else if (memcmp(mine, other, sizeof mine) != 0 || memcmp(mine, old, sizeof mine) != 0) {
+        if (failed("bicc_read leaves other numbers")) {
+            show("message", message, length);
+            for (int i = 0; i < 10; i++)
+                printf("  %u / %u\n", mine[EDGE + i], other[EDGE + i]);
+        }
+    }
+    return got;
+}
+
+static uint32_t try_bicc_compact(const uint8_t *message, size_t length, size_t room)
+{
+    begin();
+    size_t m = lend(message, length), o = lend(0, room);
+    ready();
+    uint32_t got = llachurep_bicc_compact(in(m, length), length, at(ours, o, room), room);
+    uint32_t wanted = plain_bicc_compact(at(theirs, m, length), length, at(theirs, o, room), room);
+    if (!settle(BICC_COMPACT, got, wanted, got >> 16, o, got & 65535))
+        show("message", message, length);
+    return got;
+}
+
+static uint32_t try_bicc_write(uint32_t code, const struct given *w, size_t room)
+{
+    begin();
+    size_t f = lend(w->fixed, w->fixed_length), a = lend(w->first, w->first_length), b = lend(w->second, w->second_length);
+    size_t p = lend(w->optional, w->optional_length), o = lend(0, room);
+    ready();
+    uint32_t got = llachurep_bicc_write(code, w->type, in(f, w->fixed_length), w->fixed_length, in(a, w->first_length),
+                                        w->first_length, in(b, w->second_length), w->second_length,
+                                        in(p, w->optional_length), w->optional_length, at(ours, o, room), room);
+    uint32_t wanted = plain_bicc_write(code, w->type, at(theirs, f, w->fixed_length), w->fixed_length,
+                                       at(theirs, a, w->first_length), w->first_length, at(theirs, b, w->second_length),
+                                       w->second_length, at(theirs, p, w->optional_length), w->optional_length,
+                                       at(theirs, o, room), room);
+    if (!settle(BICC_WRITE, got, wanted, got >> 16, o, got & 65535) && failures <= SHOWN) {
+        printf("  code %u, type %u, room %u\n", code, w->type, (unsigned)room);
         show("fixed", w->fixed, w->fixed_length);
         show("first", w->first, w->first_length);
         show("second", w->second, w->second_length);
@@ -1244,7 +1309,7 @@ static void spoil_given(struct given *w)
 static void generated(void)
 {
     static struct given w;
-    static uint8_t m[1200], scratch[1024], defaults[400], signals[64];
+    static uint8_t m[1200], call[1202], scratch[1024], defaults[400], signals[64];
     static const uint32_t strange[6] = {0, 256, 0xffffffff, 1, 7, 255};
     for (unsigned i = 0; i < MESSAGES; i++) {
         if (i % 64 == 0)
@@ -1267,6 +1332,13 @@ static void generated(void)
         try_read(m, length, one_in(8) ? below(13) : 10);
         uint32_t size = plain_compact(m, length, scratch, 1024);
         try_compact(m, length, near(size >> 16 ? 0 : size));
+
+        noise(call, 2);
+        memcpy(call + 2, m, length);
+        size_t call_length = one_in(40) ? below(7) : length + 2;
+        try_bicc_read(call, call_length, one_in(8) ? below(13) : 10);
+        size = plain_bicc_compact(call, call_length, scratch, 1024);
+        try_bicc_compact(call, call_length, near(size >> 16 ? 0 : size));
 
         size_t run = one_in(3) ? 0 : some_run(defaults, 390);
         if (run && one_in(8))
@@ -1298,6 +1370,10 @@ static void generated(void)
         size = plain_write(w.circuit, w.type, w.fixed, w.fixed_length, w.first, w.first_length, w.second,
                            w.second_length, w.optional, w.optional_length, scratch, 1024);
         try_write(&w, near(size >> 16 ? 0 : size));
+        uint32_t code = chance();
+        size = plain_bicc_write(code, w.type, w.fixed, w.fixed_length, w.first, w.first_length, w.second, w.second_length,
+                                w.optional, w.optional_length, scratch, 1024);
+        try_bicc_write(code, &w, near(size >> 16 ? 0 : size));
 
         if (i % 4 == 0) {
             size_t count = one_in(4) ? below(20) : some_number(m);
@@ -1314,6 +1390,69 @@ static void generated(void)
                              one_in(20) ? chance() : below(2), signals, count, near(2 + (count + 1) / 2));
         }
     }
+}
+
+/* ------------------------------------------------------------------------------------------------ BICC */
+
+/* A message, what reading it answers, and its code where it reads. */
+static void bicc_case(const char *text, uint32_t wanted, uint32_t code)
+{
+    size_t length = hex(text, octets);
+    want("bicc_read", text, try_bicc_read(octets, length, 10), wanted);
+    want("bicc_compact", text, try_bicc_compact(octets, length, 270), wanted == 10 ? length : wanted);
+    if (wanted == 10) {
+        uint32_t parts[10];
+        llachurep_bicc_read(octets, length, parts, 10);
+        want("bicc_read", "the code", parts[0], code);
+        for (size_t count = 0; count <= 11; count++)
+            want("bicc_read, count", text, try_bicc_read(octets, length, count), count < 10 ? REFUSED(13) : 10);
+        want("bicc_compact, room one short", text, try_bicc_compact(octets, length, length - 1), REFUSED(13));
+        want("bicc_compact, no room", text, try_bicc_compact(octets, length, 0), REFUSED(13));
+    }
+}
+
+static void bicc_cases(void)
+{
+    bicc_case("", REFUSED(1), 0);
+    bicc_case("12", REFUSED(1), 0);
+    bicc_case("01020304", REFUSED(1), 0);
+    bicc_case("ffffffff12", 10, 4294967295u);
+    bicc_case("0000000012", 10, 0);
+    bicc_case("010203040c0200028090", 10, 67305985);
+    bicc_case("7856341217010103", 10, 305419896);
+    bicc_case("0102030413", REFUSED(3) + 4, 0);
+    bicc_case("0102030414", REFUSED(3) + 4, 0);
+    bicc_case("0102030415", REFUSED(3) + 4, 0);
+    bicc_case("0102030416", REFUSED(3) + 4, 0);
+    bicc_case("01020304ff", REFUSED(3) + 4, 0);
+    bicc_case("0100130000", REFUSED(3) + 4, 0);
+    bicc_case("0102030417", REFUSED(4) + 5, 0);
+    bicc_case("010203041700", REFUSED(5) + 5, 0);
+    bicc_case("01020304170103", REFUSED(6) + 6, 0);
+    bicc_case("010203040901200141", REFUSED(7) + 9, 0);
+    bicc_case("010203040c0201010000", REFUSED(8) + 7, 0);
+    /* ANM with one optional parameter and octets after it: 270 in all are read, 271 are not, whatever the type. */
+    for (size_t length = 268; length <= 272; length++) {
+        memset(octets, 0, length);
+        octets[4] = 0x09;
+        want("bicc_read, length", "ANM", try_bicc_read(octets, length, 10), length > 270 ? REFUSED(2) : 10);
+        octets[4] = 0x13;
+        want("bicc_read, length", "BLO", try_bicc_read(octets, length, 10), length > 270 ? REFUSED(2) : REFUSED(3) + 4);
+    }
+    /* ANM with a run: 270 octets are written, 271 are not. */
+    static struct given w;
+    w.type = 0x09;
+    w.optional_length = 263;
+    memset(w.optional, 0, sizeof w.optional);
+    for (size_t k = 0; k + 2 <= 258; k += 2)
+        w.optional[k] = 1;
+    w.optional[258] = 1;
+    w.optional[259] = 3;
+    want("bicc_write, longest", "ANM", try_bicc_write(7, &w, 800), 270);
+    want("bicc_write, longest, no room", "ANM", try_bicc_write(7, &w, 269), REFUSED(13));
+    w.optional[259] = 4;
+    w.optional_length = 264;
+    want("bicc_write, too long", "ANM", try_bicc_write(7, &w, 800), REFUSED(2));
 }
 
 /* ------------------------------------------------------------------------------------------------ velocities */
@@ -1434,6 +1573,9 @@ static void reached(void)
         [VELOCITY_CODE] = {[0] = 1, [13] = 1, [26] = 1},
         [VELOCITY_VERTICAL] = {[0] = 1, [13] = 1, [26] = 1},
         [VELOCITY_READ] = {[0] = 1, [13] = 1, [26] = 1},
+        [BICC_READ] = {1, 1, 1, 1, 1, 1, 1, 1, 1, 0, 0, 0, 0, 1},
+        [BICC_WRITE] = {1, 0, 1, 1, 0, 0, 0, 0, 0, 0, 1, 1, 1, 1},
+        [BICC_COMPACT] = {1, 1, 1, 1, 1, 1, 1, 1, 1, 0, 0, 0, 1, 1},
     };
     for (int f = 0; f < FUNCTIONS; f++) {
         printf("%-13s", names[f]);
@@ -1452,9 +1594,12 @@ static void reached(void)
             known |= types[i] == type;
         for (int i = 0; i < 9; i++)
             acting |= acted[i] == type;
+        unsigned called = known && (type < 0x13 || type > 0x16);
         checks++;
-        if ((known != (types_read[type] > 1000) || acting != (types_acted[type] > 1000)) && failed("types"))
-            printf("  %02x was read %lu times, acted on %lu times\n", type, types_read[type], types_acted[type]);
+        if ((known != (types_read[type] > 1000) || acting != (types_acted[type] > 1000) || called != (types_called[type] > 1000)) &&
+            failed("types"))
+            printf("  %02x was read %lu times, acted on %lu times, read of BICC %lu times\n", type, types_read[type],
+                   types_acted[type], types_called[type]);
     }
 }
 
@@ -1474,6 +1619,7 @@ int main(void)
     number_cases();
     act_cases();
     block_cases();
+    bicc_cases();
     velocity_cases();
     generated();
     generated_velocities();

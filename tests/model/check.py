@@ -26,6 +26,10 @@ REACHED = {
     "unblock": [9, 20, 13],
     "velocity": [26],
     "velocity-back": [26],
+    "bicc-shape": [3],
+    "bicc-read": READER,
+    "bicc-write": [3, 10, 11, 12, 2, 13],
+    "bicc-compact": READER + [12, 13],
 }
 
 faults = []
@@ -74,8 +78,9 @@ def lines():
 
 
 def shapes():
-    """The table of types: 24 of them."""
+    """The table of types: 24 of them, of BICC 20."""
     check(len(TYPES) == 24, "24 types")
+    check(len(model.BICC.types) == 20, "20 types of BICC")
 
 
 def transcripts():

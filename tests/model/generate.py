@@ -14,7 +14,7 @@ import model
 import velocities
 from model import SHAPES, IAM, REL, RSC, BLO, UBL, GRS, CGB, CGU, CQM
 
-STORED_COUNT = 4400
+STORED_COUNT = 5000
 STORED_SEED = 763
 
 TYPES = sorted(SHAPES)
@@ -565,6 +565,38 @@ class Generator:
                 signals[self.pick([0, count - 1, self.between(0, count - 1)])] = self.pick([16, 16, 17, 128, 255])
         return [self.line("dial", nature, plan, internal, bytes(signals), self.room(2 + (count + 1) // 2))]
 
+    # ------------------------------------------------------------ BICC
+
+    def call(self, message):
+        """The same message of BICC: two octets more in front, so that every limit stands two octets further on."""
+        if self.chance(0.03):
+            return self.octets(self.between(0, 6))
+        return self.octets(2) + message
+
+    def code(self):
+        return self.pick([0, 1, 255, 256, 4095, 4096, 65535, 65536, 16777216, 305419896, TOP - 1, TOP, self.rng.getrandbits(32)])
+
+    def bicc_shape(self):
+        return [b"bicc-" + line for line in self.shape()]
+
+    def bicc_read(self):
+        return [self.line("bicc-read", self.call(self.message()))]
+
+    def bicc_compact(self):
+        message = self.call(self.unfit() if self.chance(0.12) else self.message() if self.chance(0.6) else self.well())
+        whole = model.bicc_compact(message, 1024)
+        need = len(message) if model.refused(whole) else len(whole)
+        return [self.line("bicc-compact", message, self.room(need))]
+
+    def bicc_write(self):
+        """What `write` is asked, with a code for the circuit: the whole has two octets more."""
+        words = self.write()[0].split(b" ")
+        fields = [bytes.fromhex(word.decode().replace("-", "")) for word in words[3:7]]
+        code, kind = self.code(), int(words[2], 16)
+        whole = model.bicc_write(code, kind, *fields, 1024)
+        need = self.between(5, 42) if model.refused(whole) else len(whole)
+        return [self.line("bicc-write", code, self.octet(kind), *fields, self.room(need))]
+
     # ------------------------------------------------------------ the hub
 
     def asking(self, kind, m, r=None):
@@ -825,7 +857,8 @@ class Generator:
 
     def request(self):
         return self.pick([self.shape, self.read, self.write, self.compact, self.find, self.number, self.dial,
-                          self.look, self.strange, self.spans, self.ours, self.velocity, self.velocity_back])()[0]
+                          self.look, self.strange, self.spans, self.ours, self.velocity, self.velocity_back, self.bicc_shape, self.bicc_read,
+                          self.bicc_write, self.bicc_compact])()[0]
 
     def long(self):
         """Lines of 8192 octets, of one more, and of many more."""
@@ -908,6 +941,20 @@ class Generator:
     def limits(self):
         """Requests without a table at the very edge of each rule, each a scene of one line."""
         made = [b"shape %02x" % kind for kind in TYPES + NEAR_TYPES]
+        made += [b"bicc-shape %02x" % kind for kind in [0x12, 0x13, 0x14, 0x15, 0x16, 0x17, 0xFF]]
+
+        # BICC: each of the reader's numbers at the edge, the four types that are ISUP's alone, the code's ends, 270 octets.
+        for message in ("", "01020304", "0102030412", "ffffffff12", "00000000", "0000000012", "0102030413", "0102030414",
+                        "0102030415", "0102030416", "01001300", "0100130000", "0102030417", "010203041700", "010203041701",
+                        "01020304170100", "01020304170101", "0102030417010103", "010203040900", "010203040901",
+                        "01020304090100", "010203040901200141", "01020304090120014100", "010203040c0200028090",
+                        "010203040c0201010000", "010203040900" + "00" * 264, "010203040900" + "00" * 265):
+            made += [b"bicc-read " + (message or "-").encode(), b"bicc-compact " + (message or "-").encode() + b" 270"]
+        for kind, size in ((0x09, 263), (0x09, 264), (0x10, 263), (0x10, 264)):
+            made.append(b"bicc-write 4294967295 %02x - - - %s 1024" % (kind, self.run_of(size).hex().encode()))
+        for size in (253, 254, 255, 256):
+            for run in (b"-", b"2000"):
+                made.append(b"bicc-write 1 0c - %s - %s 1024" % (b"07" * size, run))
 
         # Lines: their ends, their length, their fields.
         for digits, tail in ((5, b""), (6, b""), (7, b""), (6, b"\r"), (7, b"\r"), (6, b"\r\r")):
@@ -916,6 +963,7 @@ class Generator:
         made += [b"", b"\r", b"\r\r", b" ", b"\0", b"shape 13\r", b"shape 13\r\r", b"shape 13 \r", b"shape 13\0"]
         made += [b"read " + b"00" * 1024, b"read " + b"00" * 1025]
         for line in (b"shape 13", b"read 230113", b"write 1 13 - - - - 3", b"compact 230113 3", b"find 20 01000900 200141",
+                     b"bicc-shape 12", b"bicc-read 2301000012", b"bicc-write 1 12 - - - - 5", b"bicc-compact 2301000012 5",
                      b"number 0310 0", b"dial 3 1 0 01 3", b"own 9 9 3", b"set 9 9 2", b"act 3 090013 3", b"rows 9 9"):
             made.append(line)
             words = line.split(b" ")
@@ -1122,7 +1170,8 @@ class Generator:
         return self.weighted([
             (3, self.shape), (22, self.read), (20, self.write), (15, self.compact), (18, self.find),
             (9, self.number), (9, self.dial), (10, self.group), (7, self.single), (4, self.going), (1, self.spans),
-            (18, self.strange), (6, self.ours), (1, self.look), (10, self.velocity), (4, self.velocity_back), (11, lambda: [self.bad()])])()
+            (18, self.strange), (6, self.ours), (1, self.look), (10, self.velocity), (4, self.velocity_back), (2, self.bicc_shape), (14, self.bicc_read), (12, self.bicc_write),
+            (10, self.bicc_compact), (11, lambda: [self.bad()])])()
 
     def next(self):
         """The next line, without LF; with a CR in some."""

@@ -12,7 +12,7 @@ from typing import NamedTuple
 import velocities
 
 CIRCUITS = 4096
-SHORTEST, LONGEST = 3, 268
+LONGEST = 268
 
 
 class Placed(int):
@@ -63,11 +63,6 @@ GRS, CGB, CGU, CGBA, CGUA, GRA = 0x17, 0x18, 0x19, 0x1A, 0x1B, 0x29
 CQM, CQR = 0x2A, 0x2B
 
 
-def shape(kind):
-    """One plain question with one answer for all 256 octets."""
-    return SHAPES.get(kind, 3)
-
-
 # ---------------------------------------------------------------- the reader
 
 class Message(NamedTuple):
@@ -96,17 +91,35 @@ def share(one, other):
     return max(one[0], other[0]) < min(one[1], other[1])
 
 
-def read(message):
-    """1, 2, 3, 4; each variable pointer in turn 5 then 6; the optional pointer 5 then 7; then 8."""
+class Family(NamedTuple):
+    """What one family of messages has other than another."""
+    width: int          # the octets before the type octet
+    longest: int
+    types: frozenset
+
+
+ISUP = Family(2, LONGEST, frozenset(SHAPES))
+# Document 02, P4: a call instance code of four octets, 5 to 270 octets, and our types without those that are ISUP's alone.
+BICC = Family(4, 270, frozenset(SHAPES) - {BLO, UBL, BLA, UBA})
+
+
+def row_of(family, kind):
+    return SHAPES[kind] if kind in family.types else 3
+
+
+def parse(family, message):
+    """1, 2, 3, 4; each variable pointer in turn 5 then 6; the optional pointer 5 then 7; then 8. Gives type, fixed octets,
+    variable contents and optional run."""
     length = len(message)
-    if length < SHORTEST:
+    if length < family.width + 1:
         return 1
-    if length > LONGEST:
+    if length > family.longest:
         return 2
-    row = shape(message[2])
+    kind = message[family.width]
+    row = row_of(family, kind)
     if refused(row):
-        return Placed(row, 2)           # about the type octet
-    pointers = 3 + row.fixed
+        return Placed(row, family.width)    # about the type octet
+    pointers = family.width + 1 + row.fixed
     end = pointers + row.variable + (1 if row.optional else 0)
     if end > length:
         return Placed(4, length)        # about L
@@ -140,10 +153,27 @@ def read(message):
         for j in range(i + 1, len(parts)):
             if share(parts[i], parts[j]):
                 return Placed(8, max(parts[i][0], parts[j][0]))     # about the later start
+    return kind, message[family.width + 1:pointers], tuple(contents), run
 
+
+def read(message):
+    got = parse(ISUP, message)
     # The high half of octet 1 is spare: ignored in reading.
-    circuit = message[0] + 256 * (message[1] % 16)
-    return Message(circuit, message[2], message[3:pointers], tuple(contents), run)
+    return got if refused(got) else Message(message[0] + 256 * (message[1] % 16), *got)
+
+
+class Call(NamedTuple):
+    code: int
+    kind: int
+    fixed: bytes
+    variable: tuple
+    optional: bytes
+
+
+def bicc_read(message):
+    got = parse(BICC, message)
+    # The least significant octet of the code comes first.
+    return got if refused(got) else Call(sum(message[i] << 8 * i for i in range(4)), *got)
 
 
 # ---------------------------------------------------------------- the optional run
@@ -165,11 +195,9 @@ def parameters(run):
 
 # ---------------------------------------------------------------- the writer
 
-def write(circuit, kind, fixed, first, second, optional, room):
-    """9, 3, 10, 11, 12, 2, 13."""
-    if circuit > 4095:
-        return 9
-    row = shape(kind)
+def compose(family, head, kind, fixed, first, second, optional, room):
+    """3, 10, 11, 12, 2, 13."""
+    row = row_of(family, kind)
     if refused(row):
         return row
     # Fixed octets of wrong count, or contents for a part the type lacks.
@@ -183,7 +211,7 @@ def write(circuit, kind, fixed, first, second, optional, room):
 
     # Variable parameters in pointer order right after the pointers, the optional part next.
     contents = (first, second)[:row.variable]
-    pointers = 3 + row.fixed
+    pointers = family.width + 1 + row.fixed
     place = pointers
     target = pointers + row.variable + (1 if row.optional else 0)
     numbers = []                # every length and pointer octet that will be written
@@ -196,7 +224,7 @@ def write(circuit, kind, fixed, first, second, optional, room):
     if any(value > 255 for value in numbers):
         return 12
 
-    octets = bytearray((circuit % 256, circuit // 256, kind))
+    octets = bytearray(head + bytes([kind]))
     octets += fixed
     octets += bytes(numbers[0:2 * row.variable:2])
     if row.optional:
@@ -206,11 +234,23 @@ def write(circuit, kind, fixed, first, second, optional, room):
         octets += each
     if optional:
         octets += optional + b"\0"
-    if len(octets) > LONGEST:
+    if len(octets) > family.longest:
         return 2
     if len(octets) > room:
         return 13
     return bytes(octets)
+
+
+def write(circuit, kind, fixed, first, second, optional, room):
+    """9, then as every family."""
+    if circuit > 4095:
+        return 9
+    return compose(ISUP, bytes((circuit % 256, circuit // 256)), kind, fixed, first, second, optional, room)
+
+
+def bicc_write(code, kind, fixed, first, second, optional, room):
+    """Any code is a code."""
+    return compose(BICC, bytes(code >> 8 * i & 255 for i in range(4)), kind, fixed, first, second, optional, room)
 
 
 def compact(message, room):
@@ -220,6 +260,14 @@ def compact(message, room):
         return got
     first, second = (got.variable + (b"", b""))[:2]
     return write(got.circuit, got.kind, got.fixed, first, second, got.optional, room)
+
+
+def bicc_compact(message, room):
+    got = bicc_read(message)
+    if refused(got):
+        return got
+    first, second = (got.variable + (b"", b""))[:2]
+    return bicc_write(got.code, got.kind, got.fixed, first, second, got.optional, room)
 
 
 # ---------------------------------------------------------------- finding
@@ -510,6 +558,10 @@ FIELDS = {
     b"unblock": (ANY, ROOM),
     b"velocity": (value, value),
     b"velocity-back": (CODE, CODE),
+    b"bicc-shape": (octet,),
+    b"bicc-read": (octets,),
+    b"bicc-write": (ANY, octet, octets, octets, octets, octets, ROOM),
+    b"bicc-compact": (octets, ROOM),
 }
 
 # The requests that have a second form, with more fields.
@@ -539,6 +591,17 @@ def shown(these):
     return these.hex() or "-"
 
 
+def said(message):
+    """The type and the parts of a message."""
+    first, second = (message.variable + (b"", b""))[:2]
+    return "type %02x fixed %s first %s second %s optional %s" % (
+        message.kind, shown(message.fixed), shown(first), shown(second), shown(message.optional))
+
+
+def written(answer):
+    return answer if refused(answer) else "octets " + shown(answer)
+
+
 # ---------------------------------------------------------------- the desk
 
 class Desk:
@@ -557,27 +620,35 @@ class Desk:
         answer = getattr(self, "on_" + word)(*values)
         return (refusal(answer) if refused(answer) else answer).encode()
 
-    def on_shape(self, kind):
-        row = shape(kind)
+    def on_shape(self, kind, family=ISUP):
+        """One plain question with one answer for all 256 octets."""
+        row = row_of(family, kind)
         if refused(row):
             return row
         return "fixed %d variable %d optional %s" % (row.fixed, row.variable, "yes" if row.optional else "no")
 
+    def on_bicc_shape(self, kind):
+        return self.on_shape(kind, BICC)
+
     def on_read(self, message):
         got = read(message)
-        if refused(got):
-            return got
-        first, second = (got.variable + (b"", b""))[:2]
-        return "circuit %d type %02x fixed %s first %s second %s optional %s" % (
-            got.circuit, got.kind, shown(got.fixed), shown(first), shown(second), shown(got.optional))
+        return got if refused(got) else "circuit %d " % got.circuit + said(got)
+
+    def on_bicc_read(self, message):
+        got = bicc_read(message)
+        return got if refused(got) else "code %d " % got.code + said(got)
 
     def on_write(self, *values):
-        written = write(*values)
-        return written if refused(written) else "octets " + shown(written)
+        return written(write(*values))
+
+    def on_bicc_write(self, *values):
+        return written(bicc_write(*values))
 
     def on_compact(self, message, room):
-        written = compact(message, room)
-        return written if refused(written) else "octets " + shown(written)
+        return written(compact(message, room))
+
+    def on_bicc_compact(self, message, room):
+        return written(bicc_compact(message, room))
 
     def on_find(self, name, message, defaults):
         found = find(name, message, defaults)

@@ -2,8 +2,8 @@
 
 from typing import NamedTuple
 
-from contents import LONGEST, Maker, Message
-from shapes import SHAPES, TYPES, after_pointers
+from contents import Maker, Message
+from shapes import ISUP, SHAPES, after_pointers
 
 
 class Composed(NamedTuple):
@@ -28,7 +28,8 @@ def gap(maker, most):
 
 def lay_out(maker, message, most):
     """The message with its parts in any order and gaps of at most so many octets, or None where a pointer or the length would not do."""
-    begin, end = after_pointers(message.kind)
+    family = maker.family
+    begin, end = after_pointers(message.kind, family)
     parts = part_octets(maker, message)
     pointers, body = bytearray(len(parts)), bytearray()
     order = [place for place in range(len(parts)) if parts[place] is not None]
@@ -41,11 +42,11 @@ def lay_out(maker, message, most):
         pointers[place] = pointer
         body += parts[place]
     body += gap(maker, most)
-    spare = maker.between(0, 15) << 12
-    head = (message.circuit | spare).to_bytes(2, "little") + bytes([message.kind])
+    spare = maker.between(0, (1 << family.spare) - 1) * family.numbers()
+    head = (message.circuit | spare).to_bytes(family.width, "little") + bytes([message.kind])
     octets = head + message.fixed + pointers + body
     used = end + sum(len(parts[place]) for place in order)
-    return Composed(message, octets, bytes(pointers), len(octets) - used) if len(octets) <= LONGEST else None
+    return Composed(message, octets, bytes(pointers), len(octets) - used) if len(octets) <= family.longest else None
 
 
 def with_spare_bits(maker, message):
@@ -56,7 +57,7 @@ def with_spare_bits(maker, message):
 
 
 def compose(maker, kind):
-    message = with_spare_bits(maker, maker.message(kind, maker.between(60, LONGEST)))
+    message = with_spare_bits(maker, maker.message(kind, maker.between(60, maker.family.longest)))
     most = 40
     while True:
         found = lay_out(maker, message, most)
@@ -65,7 +66,7 @@ def compose(maker, kind):
         most //= 2
 
 
-def composed(count, seed):
-    """So many messages, of the 24 types in turn."""
-    maker = Maker(seed)
-    return [compose(maker, TYPES[place % len(TYPES)]) for place in range(count)]
+def composed(count, seed, family=ISUP):
+    """So many messages, of the family's types in turn."""
+    maker = Maker(seed, family)
+    return [compose(maker, family.types[place % len(family.types)]) for place in range(count)]

@@ -5,7 +5,6 @@ from typing import NamedTuple, Optional
 
 from shapes import *
 
-LONGEST = 268
 EMPTY = 0.01            # the part of the messages with variable parameters whose contents are empty
 
 # Optional parameters that are a number: octets of indicators, then signals. Generic number has a qualifier in front.
@@ -44,7 +43,7 @@ class Number(NamedTuple):
 
 
 class Message(NamedTuple):
-    circuit: int
+    circuit: int                # of BICC the call instance code
     kind: int
     fixed: bytes
     variable: tuple             # the contents of each variable parameter, in pointer order
@@ -57,7 +56,8 @@ class Message(NamedTuple):
 
 
 def compact_pointers(message):
-    """The pointers of the compact form: variable parameters in pointer order right after the pointers, then the optional part."""
+    """The pointers of the compact form: variable parameters in pointer order right after the pointers, then the optional part. They are
+    counted from themselves, so they are alike in both families."""
     pointer, place = after_pointers(message.kind)
     found = []
     for contents in message.variable:
@@ -68,15 +68,16 @@ def compact_pointers(message):
     return found
 
 
-def compact_length(message):
+def compact_length(message, family=ISUP):
     """How many octets the compact form has, all of them with a meaning."""
     variable = sum(1 + len(contents) for contents in message.variable)
-    return after_pointers(message.kind)[1] + variable + (len(message.run()) + 1 if message.optional else 0)
+    return after_pointers(message.kind, family)[1] + variable + (len(message.run()) + 1 if message.optional else 0)
 
 
 class Maker:
-    def __init__(self, seed):
+    def __init__(self, seed, family=ISUP):
         self.rng = random.Random(seed)
+        self.family = family
 
     # ------------------------------------------------------------ small choices
 
@@ -190,17 +191,17 @@ class Maker:
                 used += 2 + len(contents)
         return tuple(found)
 
-    def message(self, kind, longest=LONGEST):
+    def message(self, kind, longest):
         """A message of the type, of at most so many octets in the compact form."""
         number = self.number() if kind == IAM else None
         fixed, variable = self.fixed(kind), self.variable(kind, number)
         number = number if any(variable) else None
-        used = after_pointers(kind)[1] + sum(1 + len(contents) for contents in variable)
+        used = after_pointers(kind, self.family)[1] + sum(1 + len(contents) for contents in variable)
         optional = self.optional(longest - used) if SHAPES[kind].optional else ()
-        return Message(self.between(0, 4095), kind, fixed, variable, optional, number)
+        return Message(self.between(0, self.family.numbers() - 1), kind, fixed, variable, optional, number)
 
 
-def messages(count, seed):
-    """So many messages, of the 24 types in turn."""
-    maker = Maker(seed)
-    return [maker.message(TYPES[place % len(TYPES)]) for place in range(count)]
+def messages(count, seed, family=ISUP):
+    """So many messages, of the family's types in turn."""
+    maker = Maker(seed, family)
+    return [maker.message(family.types[place % len(family.types)], family.longest) for place in range(count)]

@@ -8,6 +8,7 @@ from pathlib import Path
 from typing import NamedTuple
 
 from contents import Number
+from shapes import ISUP
 
 TOP = Path(__file__).resolve().parents[2]
 
@@ -36,17 +37,18 @@ def octets(text):
 
 # ---------------------------------------------------------------- requests
 
-def write_request(message):
+def write_request(message, family=ISUP):
     first, second = (message.variable + (b"", b""))[:2]
-    return "write %d %02x %s %s %s %s 268" % (message.circuit, message.kind, word(message.fixed), word(first), word(second), word(message.run()))
+    return "%swrite %d %02x %s %s %s %s %d" % (family.prefix, message.circuit, message.kind, word(message.fixed), word(first), word(second),
+                                               word(message.run()), family.longest)
 
 
 def dial_request(number):
     return "dial %d %d %d %s 268" % (number.nature, number.plan, number.internal, word(number.signals))
 
 
-def read_request(message):
-    return "read " + word(message)
+def read_request(message, family=ISUP):
+    return family.prefix + "read " + word(message)
 
 
 def number_request(contents):
@@ -70,10 +72,10 @@ def octets_answer(answer):
     return octets(words[1]) if words[0] == "octets" else None
 
 
-def read_answer(answer):
-    """The parts of an answer `circuit ..`, or None."""
+def read_answer(answer, family=ISUP):
+    """The parts of an answer `circuit ..` or `code ..`, or None."""
     words = answer.split(" ")
-    if words[0::2] != ["circuit", "type", "fixed", "first", "second", "optional"]:
+    if words[0::2] != [family.number, "type", "fixed", "first", "second", "optional"]:
         return None
     circuit, kind, *rest = words[1::2]
     return Read(int(circuit), int(kind, 16), *map(octets, rest))

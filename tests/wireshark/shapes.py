@@ -1,4 +1,4 @@
-"""The 24 types: the fixed and variable parameters of each by name, and whether it has an optional part.
+"""The two families, and the 24 types: the fixed and variable parameters of each by name, and whether it has an optional part.
 
 From document 01's table; the names and the lengths of the parameters from Q.1902.3, clause 7.
 """
@@ -44,8 +44,29 @@ TYPES = sorted(SHAPES)
 assert len(TYPES) == 24
 
 
-def after_pointers(kind):
+class Family(NamedTuple):
+    """What one family of messages has other than another."""
+    prefix: str         # before the word of a request
+    number: str         # what the desk calls the number in front of the type
+    width: int          # the octets of that number
+    spare: int          # its spare bits
+    longest: int
+    types: list
+    service: int        # the service information octet: a national network, and the family
+    protocol: str       # tshark's name of the family
+    field: str          # tshark's field for that number
+
+    def numbers(self):
+        """How many numbers there are."""
+        return 1 << 8 * self.width - self.spare
+
+
+ISUP = Family("", "circuit", 2, 4, 268, TYPES, 0x85, "isup", "isup.cic")
+BICC = Family("bicc-", "code", 4, 0, 270, [kind for kind in TYPES if kind not in (BLO, UBL, BLA, UBA)], 0x8D, "bicc", "bicc.cic")
+
+
+def after_pointers(kind, family=ISUP):
     """Where the pointers of a type begin, and the octet past them."""
     shape = SHAPES[kind]
-    begin = 3 + sum(length for _, length in shape.fixed)
+    begin = family.width + 1 + sum(length for _, length in shape.fixed)
     return begin, begin + len(shape.variable) + (1 if shape.optional else 0)

@@ -10,9 +10,9 @@ import xml.etree.ElementTree as ElementTree
 from typing import NamedTuple, Optional
 
 from contents import Number
+from shapes import ISUP
 
 LINKTYPE_MTP3 = 141
-SERVICE = 0x85          # service information octet: a national network, ISUP
 HERE, THERE = 5, 9      # the two signalling points of the routing label
 LABEL = 5               # octets in front of the message: the service information octet and the routing label
 
@@ -46,17 +46,17 @@ def version():
 
 # ---------------------------------------------------------------- the capture file
 
-def wrapped(octets):
+def wrapped(octets, family):
     """A message behind its service information octet and its routing label; the link is chosen by the circuit, as 5.2 has it."""
     label = HERE | THERE << 14 | (octets[0] & 15) << 28
-    return bytes([SERVICE]) + struct.pack("<I", label) + octets
+    return bytes([family.service]) + struct.pack("<I", label) + octets
 
 
-def write_capture(path, messages):
+def write_capture(path, messages, family=ISUP):
     with open(path, "wb") as out:
         out.write(struct.pack("<IHHiIII", 0xA1B2C3D4, 2, 4, 0, 0, 65535, LINKTYPE_MTP3))
         for place, octets in enumerate(messages):
-            packet = wrapped(octets)
+            packet = wrapped(octets, family)
             out.write(struct.pack("<IIII", place, 0, len(packet), len(packet)) + packet)
 
 
@@ -107,10 +107,11 @@ def complaint_of(packet):
 class Gathered:
     """What the fields of one packet say, put together field by field. A field has its octets in `value` and its place in the packet in `pos`."""
 
-    def __init__(self):
+    def __init__(self, width):
+        self.width = width
         self.names, self.pointers, self.variable, self.optional = [], [], [], None
         self.fixed = b""
-        self.covered = 3
+        self.covered = width + 1
         self.circuits = self.number = self.digits = None
         self.complaint = ""
 
@@ -146,7 +147,7 @@ class Gathered:
             self.take_variable(field, octets)
 
     def take_fixed(self, field, octets):
-        if int(field.get("pos")) != LABEL + 3 + len(self.fixed):
+        if int(field.get("pos")) != LABEL + self.width + 1 + len(self.fixed):
             self.complaint = "a fixed parameter that is not where the one before it ends"
         self.fixed += octets
 
@@ -167,15 +168,15 @@ class Gathered:
         self.optional.append((name, octets[2:]))
 
 
-def read_packet(packet):
-    """The reading of one packet in PDML, or None where tshark finds no ISUP in it."""
-    isup = next((each for each in packet.findall("proto") if each.get("name") == "isup"), None)
+def read_packet(packet, family):
+    """The reading of one packet in PDML, or None where tshark finds no message of the family in it."""
+    isup = next((each for each in packet.findall("proto") if each.get("name") == family.protocol), None)
     if isup is None:
         return None
-    found = Gathered()
+    found = Gathered(family.width)
     for field in isup.findall("field"):
         found.field(field)
-    return Reading(shown(isup, "isup.cic"), shown(isup, "isup.message_type"), tuple(found.names), found.fixed, tuple(found.pointers),
+    return Reading(shown(isup, family.field), shown(isup, "isup.message_type"), tuple(found.names), found.fixed, tuple(found.pointers),
                    tuple(found.variable), None if found.optional is None else tuple(found.optional), found.covered,
                    found.circuits, found.number, found.digits, found.complaint or complaint_of(packet))
 
@@ -188,14 +189,14 @@ def packets(stream):
             element.clear()
 
 
-def readings(path):
+def readings(path, family=ISUP):
     """What tshark reads in each packet of a capture, in one run, with no settings of the user's."""
     command = ["tshark", "-n", "-r", str(path), "-T", "pdml", "-o", "mtp3.standard:ITU", "-o", "isup.variant:ITU Standard"]
     # What tshark tells on standard error goes to a file: it is much, and nobody reads it while the packets come.
     with tempfile.TemporaryDirectory() as settings, tempfile.TemporaryFile() as told:
         own = dict(os.environ, WIRESHARK_CONFIG_DIR=settings)
         run = subprocess.Popen(command, stdin=subprocess.DEVNULL, stdout=subprocess.PIPE, stderr=told, env=own)
-        found = [read_packet(packet) for packet in packets(run.stdout)]
+        found = [read_packet(packet, family) for packet in packets(run.stdout)]
         if run.wait():
             told.seek(0)
             sys.exit("tshark ended with status %d: %s" % (run.returncode, told.read().decode(errors="replace")))

@@ -24,6 +24,10 @@ use Rattle.number.specs.declared.Number.{Number}
 use Rattle.isup.specs.Table.{shapeOf}
 use Rattle.isup.specs.Read.{readOf}
 use Rattle.isup.specs.Write.{writeIn, writeOf, compactIn, compactOf}
+use Rattle.bicc.specs.declared.Message.{Message as CallMessage}
+use Rattle.bicc.specs.Table.{callShapeOf as biccShapeOf}
+use Rattle.bicc.specs.Read.{callReadOf as biccReadOf}
+use Rattle.bicc.specs.Write.{callWriteIn as biccWriteIn, callWriteOf as biccWriteOf, callCompactIn as biccCompactIn, callCompactOf as biccCompactOf}
 use Rattle.number.specs.Read.{numberIn, readNumberOf}
 use Rattle.number.specs.Write.{numberOctets, writeNumberOf}
 use Rattle.decimals.specs.declared.Real.{Real}
@@ -44,13 +48,14 @@ use Rattle.printing.specs.Sheet.{sheet, pour}
 use Rattle.printing.specs.Shown.{decimalIn, decimalOf, hexPairs, hexOf}
 use Rattle.printing.proofs.Pours.{pour-one, pour-append}
 use Rattle.requests.specs.Kinds.{FieldSays}
-use Rattle.requests.specs.Rows.{SHAPE, READ, WRITE, COMPACT, NUMBER, OWN, SET, ACT, BLOCK, UNBLOCK, VELOCITY, VELOCITY-LONG, VELOCITY-BACK, VELOCITY-BACK-LONG}
+use Rattle.requests.specs.Rows.{SHAPE, READ, WRITE, COMPACT, NUMBER, OWN, SET, ACT, BLOCK, UNBLOCK, VELOCITY, VELOCITY-LONG, VELOCITY-BACK, VELOCITY-BACK-LONG, BICC-SHAPE, BICC-READ, BICC-WRITE, BICC-COMPACT}
 use Rattle.requests.specs.Words.{Asked, asks, nothing, askedOf, numberAt, octetAt, octetsAt}
 use Rattle.requests.proofs.Sound.{Short, short}
-use Rattle.lines.specs.Lines.{counted, shown, refusal, faultLine, writtenLine, octetsLine, blank, lent}
+use Rattle.lines.specs.Lines.{counted, shown, refusal, faultLine, writtenLine, octetsLine, blank, lent, againLine, compactLine}
 use Rattle.lines.proofs.Pouring.{poured-front}
 use Rattle.read_lines.specs.Read.{optionalWord, shapeLine, partsLine, readLine}
-use Rattle.codec_lines.specs.Codec.{againLine, compactLine, foundLine, codecLine}
+use Rattle.codec_lines.specs.Codec.{foundLine, codecLine}
+use Rattle.bicc_lines.specs.Bicc.{codeLine, biccLine}
 use Rattle.number_lines.specs.Numbers.{signalsLine, numberLine, numbersLine}
 use Rattle.velocity_lines.specs.declared.Marked.{Marked}
 use Rattle.velocity_lines.specs.declared.Marked.the-variants.{Is, Not}
@@ -139,6 +144,14 @@ module _ (most : ℕ) (m : List ℕ) (h : length m ≤ most) where
       omega (arith, length-append (a ++ b) (partsLine m (x .parts)), length-append a b, counted-length "circuit " (x .circuit), shown-length " type " (x .kind ∷ []) 1 (omega arith), parts-fit (x .parts))
   read-fits (refused n at) = omega (arith, fault-length n at)
 
+  code-fits : (x : Answer CallMessage) → length (codeLine m x) ≤ 8 * most + 200
+  unfolding codeLine
+  code-fits (accepted x) =
+      let a = counted "code " (x .code) in
+      let b = shown " type " (x .kind ∷ []) in
+      omega (arith, length-append (a ++ b) (partsLine m (x .parts)), length-append a b, counted-length "code " (x .code), shown-length " type " (x .kind ∷ []) 1 (omega arith), parts-fit (x .parts))
+  code-fits (refused n at) = omega (arith, fault-length n at)
+
   written-fits : (x : Answer ℕ) → length (writtenLine x m) ≤ 2 * most + 100
   unfolding writtenLine
   written-fits (accepted n) = omega (arith, shown-length "octets " (take n m) most (front-length m n most h))
@@ -218,6 +231,24 @@ module _ (which : ℕ) (gs : List FieldSays) (h : ShortAll gs) where
           let x = compactOf (octetsAt gs 0) (lent (numberAt gs 1)) in
           omega (arith, again-fits 1024 (x .left) (omega (arith, lent-length (numberAt gs 1), done-length (lent (numberAt gs 1)) (compactIn (octetsAt gs 0)))) (x .answer))
       go false false false false = omega (arith, found-fits 1024 (octetsAt gs 1) (h 1) (octetsAt gs 2) (h 2) (locateOf (octetsAt gs 1) (octetsAt gs 2) (numberAt gs 0)))
+
+  -- BICC's
+  bicc-fits : length (biccLine which gs) ≤ 40000
+  unfolding biccLine biccWriteOf biccCompactOf
+  bicc-fits = go (eqb which BICC-SHAPE) (eqb which BICC-READ) (eqb which BICC-WRITE)
+    where
+      go : (a b c : Bool) → length (if a then shapeLine (biccShapeOf (octetAt gs 0))
+          else if b then codeLine (octetsAt gs 0) (biccReadOf (octetsAt gs 0))
+          else if c then octetsLine (biccWriteOf (numberAt gs 0) (numberAt gs 1) (octetsAt gs 2) (octetsAt gs 3) (octetsAt gs 4) (octetsAt gs 5) (lent (numberAt gs 6)))
+          else compactLine (biccCompactOf (octetsAt gs 0) (lent (numberAt gs 1)))) ≤ 40000
+      go true b c = omega (arith, shape-fits (biccShapeOf (octetAt gs 0)))
+      go false true c = omega (arith, code-fits 1024 (octetsAt gs 0) (h 0) (biccReadOf (octetsAt gs 0)))
+      go false false true =
+          let x = biccWriteOf (numberAt gs 0) (numberAt gs 1) (octetsAt gs 2) (octetsAt gs 3) (octetsAt gs 4) (octetsAt gs 5) (lent (numberAt gs 6)) in
+          omega (arith, written-fits 1024 (x .left) (omega (arith, lent-length (numberAt gs 6), done-length (lent (numberAt gs 6)) (biccWriteIn (numberAt gs 0) (numberAt gs 1) (octetsAt gs 2) (octetsAt gs 3) (octetsAt gs 4) (octetsAt gs 5)))) (x .answer))
+      go false false false =
+          let x = biccCompactOf (octetsAt gs 0) (lent (numberAt gs 1)) in
+          omega (arith, again-fits 1024 (x .left) (omega (arith, lent-length (numberAt gs 1), done-length (lent (numberAt gs 1)) (biccCompactIn (octetsAt gs 0)))) (x .answer))
 
   -- those for numbers
   numbers-fit : length (numbersLine which gs) ≤ 40000
@@ -320,22 +351,24 @@ module _ (T : Tables) (k : length (T .states) ≤ 4096) where
   -- whatever is asked
   asked-fits : (a : Asked) → Short a → length (turnFor T a .line) ≤ 40000
   unfolding turnBy
-  asked-fits (asks which gs) h = go (ltb which NUMBER) (ltb which OWN) (ltb which ACT) (eqb which ACT) (leb which UNBLOCK) (leb which VELOCITY-BACK-LONG)
+  asked-fits (asks which gs) h = go (ltb which NUMBER) (ltb which OWN) (ltb which ACT) (eqb which ACT) (leb which UNBLOCK) (leb which VELOCITY-BACK-LONG) (leb which BICC-COMPACT)
     where
-      go : (a b c d u e : Bool) → length ((if a then turn T (codecLine which gs)
+      go : (a b c d u e f : Bool) → length ((if a then turn T (codecLine which gs)
           else if b then turn T (numbersLine which gs)
           else if c then tableTurn T which gs
           else if d then actTurn T gs
           else if u then blockTurn T which gs
           else if e then turn T (velocitiesLine which gs)
+          else if f then turn T (biccLine which gs)
           else badTurn T) .line) ≤ 40000
-      go true b c d u e = codec-fits which gs h
-      go false true c d u e = numbers-fit which gs h
-      go false false true d u e = table-fits which gs
-      go false false false true u e = act-fits gs
-      go false false false false true e = block-fits which gs
-      go false false false false false true = velocities-fit which gs
-      go false false false false false false = omega arith
+      go true b c d u e f = codec-fits which gs h
+      go false true c d u e f = numbers-fit which gs h
+      go false false true d u e f = table-fits which gs
+      go false false false true u e f = act-fits gs
+      go false false false false true e f = block-fits which gs
+      go false false false false false true f = velocities-fit which gs
+      go false false false false false false true = bicc-fits which gs h
+      go false false false false false false false = omega arith
   asked-fits nothing h = omega arith
 
 -- of every line

@@ -15,10 +15,11 @@ use Rattle.hub.proofs.Called.{act-keeps}
 use Rattle.hub.proofs.Desk.{desk-keeps}
 use Rattle.words.specs.Said.{said}
 use Rattle.requests.specs.Kinds.{FieldSays}
-use Rattle.requests.specs.Rows.{NUMBER, OWN, SET, ACT, BLOCK, UNBLOCK, VELOCITY-BACK-LONG}
+use Rattle.requests.specs.Rows.{NUMBER, OWN, SET, ACT, BLOCK, UNBLOCK, VELOCITY-BACK-LONG, BICC-COMPACT}
 use Rattle.requests.specs.Words.{Asked, asks, nothing, askedOf, numberAt, octetAt, octetsAt}
 use Rattle.lines.specs.Lines.{refusal, lent}
 use Rattle.codec_lines.specs.Codec.{codecLine}
+use Rattle.bicc_lines.specs.Bicc.{biccLine}
 use Rattle.number_lines.specs.Numbers.{numbersLine}
 use Rattle.velocity_lines.specs.Velocities.{velocitiesLine}
 use Rattle.octets.specs.Applied.{spread}
@@ -64,28 +65,30 @@ module _ (T : Tables) (which : ℕ) (gs : List FieldSays) where
 
 module _ (T : Tables) (which : ℕ) (gs : List FieldSays) where
   -- the choice of a family
-  abbrev chosenFamily : Bool → Bool → Bool → Bool → Bool → Bool → Turn
-  chosenFamily a b c d u v =
+  abbrev chosenFamily : Bool → Bool → Bool → Bool → Bool → Bool → Bool → Turn
+  chosenFamily a b c d u v w =
       if a then turn T (codecLine which gs)
       else if b then turn T (numbersLine which gs)
       else if c then tableTurn T which gs
       else if d then actTurn T gs
       else if u then blockTurn T which gs
       else if v then turn T (velocitiesLine which gs)
+      else if w then turn T (biccLine which gs)
       else badTurn T
 
   owners-by : (which ≡ OWN → ⊥) → turnBy T which gs .tables .owners ≡ T .owners
   unfolding turnBy actTurn
-  owners-by h = go (ltb which NUMBER) (ltb which OWN) (ltb which ACT) (eqb which ACT) (leb which UNBLOCK) (leb which VELOCITY-BACK-LONG)
+  owners-by h = go (ltb which NUMBER) (ltb which OWN) (ltb which ACT) (eqb which ACT) (leb which UNBLOCK) (leb which VELOCITY-BACK-LONG) (leb which BICC-COMPACT)
     where
-      go : (a b c d u v : Bool) → chosenFamily a b c d u v .tables .owners ≡ T .owners
-      go true b c d u v = refl
-      go false true c d u v = refl
-      go false false true d u v = table-owners T which gs h
-      go false false false true u v = refl
-      go false false false false true v = refl
-      go false false false false false true = refl
-      go false false false false false false = refl
+      go : (a b c d u v w : Bool) → chosenFamily a b c d u v w .tables .owners ≡ T .owners
+      go true b c d u v w = refl
+      go false true c d u v w = refl
+      go false false true d u v w = table-owners T which gs h
+      go false false false true u v w = refl
+      go false false false false true v w = refl
+      go false false false false false true w = refl
+      go false false false false false false true = refl
+      go false false false false false false false = refl
 
   -- a `block` or an `unblock` that is refused
   block-states : (which ≡ BLOCK → NotBlocked T which gs) → (which ≡ UNBLOCK → NotBlocked T which gs) → 10 ≤ which → (which ≡ ACT → ⊥) → which ≤ 12 → blockTurn T which gs .tables .states ≡ T .states
@@ -96,16 +99,17 @@ module _ (T : Tables) (which : ℕ) (gs : List FieldSays) where
 
   states-by : (which ≡ SET → ⊥) → (which ≡ ACT → Refused T gs) → (which ≡ BLOCK → NotBlocked T which gs) → (which ≡ UNBLOCK → NotBlocked T which gs) → turnBy T which gs .tables .states ≡ T .states
   unfolding turnBy actTurn
-  states-by h r p q = go (ltb which NUMBER) (ltb which OWN) (ltb which ACT) (eqb which ACT) (leb which UNBLOCK) (leb which VELOCITY-BACK-LONG) refl refl refl
+  states-by h r p q = go (ltb which NUMBER) (ltb which OWN) (ltb which ACT) (eqb which ACT) (leb which UNBLOCK) (leb which VELOCITY-BACK-LONG) (leb which BICC-COMPACT) refl refl refl
     where
-      go : (a b c d u v : Bool) → ltb which ACT ≡ c → eqb which ACT ≡ d → leb which UNBLOCK ≡ u → chosenFamily a b c d u v .tables .states ≡ T .states
-      go true b c d u v f e g = refl
-      go false true c d u v f e g = refl
-      go false false true d u v f e g = table-states T which gs h
-      go false false false true u v f e g = let w = r (eqb-true which ACT e) in act-keeps T (numberAt gs 0) (octetsAt gs 1) (lent (numberAt gs 2)) (w .0) (w .1) (w .2) .0
-      go false false false false true v f e g = block-states p q (ltb-false which ACT f) (eqb-false which ACT e) (leb-true which UNBLOCK g)
-      go false false false false false true f e g = refl
-      go false false false false false false f e g = refl
+      go : (a b c d u v w : Bool) → ltb which ACT ≡ c → eqb which ACT ≡ d → leb which UNBLOCK ≡ u → chosenFamily a b c d u v w .tables .states ≡ T .states
+      go true b c d u v w f e g = refl
+      go false true c d u v w f e g = refl
+      go false false true d u v w f e g = table-states T which gs h
+      go false false false true u v w f e g = let y = r (eqb-true which ACT e) in act-keeps T (numberAt gs 0) (octetsAt gs 1) (lent (numberAt gs 2)) (y .0) (y .1) (y .2) .0
+      go false false false false true v w f e g = block-states p q (ltb-false which ACT f) (eqb-false which ACT e) (leb-true which UNBLOCK g)
+      go false false false false false true w f e g = refl
+      go false false false false false false true f e g = refl
+      go false false false false false false false f e g = refl
 
 module _ (line : List ℕ) (T : Tables) where
   -- a line that is no request changes no table

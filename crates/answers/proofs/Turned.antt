@@ -18,6 +18,7 @@ use Rattle.requests.proofs.Agree.{request-says}
 use Rattle.requests.proofs.Said.{number-at}
 use Rattle.lines.specs.Lines.{refusal}
 use Rattle.codec_lines.specs.Codec.{codecLine}
+use Rattle.bicc_lines.specs.Bicc.{biccLine}
 use Rattle.number_lines.specs.Numbers.{numbersLine}
 use Rattle.velocity_lines.specs.Velocities.{velocitiesLine}
 use Rattle.block_lines.specs.Blocks.{blockDone}
@@ -57,14 +58,24 @@ module _ (T : Tables) (which : ℕ) (gs : List FieldSays) where
       let l : 10 ≤ which = omega arith in
       rw (le-ltb _ _ m, le-ltb _ _ k, le-ltb _ _ l, ne-eqb _ _ n, lt-leb _ _ b, le-leb _ _ h) refl
 
-  pub turn-none : (which ≡ 10 → ⊥) → 16 < which → badTurn T ≡ turnBy T which gs
+  pub turn-bicc : (which ≡ 10 → ⊥) → 16 < which → which ≤ 20 → turn T (biccLine which gs) ≡ turnBy T which gs
+  unfolding turnBy
+  turn-bicc n v h =
+      let m : 5 ≤ which = omega arith in
+      let k : 7 ≤ which = omega arith in
+      let l : 10 ≤ which = omega arith in
+      let b : 12 < which = omega arith in
+      rw (le-ltb _ _ m, le-ltb _ _ k, le-ltb _ _ l, ne-eqb _ _ n, lt-leb _ _ b, lt-leb _ _ v, le-leb _ _ h) refl
+
+  pub turn-none : (which ≡ 10 → ⊥) → 20 < which → badTurn T ≡ turnBy T which gs
   unfolding turnBy
   turn-none n h =
       let m : 5 ≤ which = omega arith in
       let k : 7 ≤ which = omega arith in
       let l : 10 ≤ which = omega arith in
       let b : 12 < which = omega arith in
-      rw (le-ltb _ _ m, le-ltb _ _ k, le-ltb _ _ l, ne-eqb _ _ n, lt-leb _ _ b, lt-leb _ _ h) refl
+      let v : 16 < which = omega arith in
+      rw (le-ltb _ _ m, le-ltb _ _ k, le-ltb _ _ l, ne-eqb _ _ n, lt-leb _ _ b, lt-leb _ _ v, lt-leb _ _ h) refl
 
 -- the requests of the tables have no octets
 pub table-any : (T : Tables) (which : ℕ) (s t : List ℕ) (fs : List Field) → tableTurn T which (saidIn s fs) ≡ tableTurn T which (saidIn t fs)

@@ -7,10 +7,11 @@ use Rattle.hub.specs.Tables.{Tables, tables, sized}
 use Rattle.words.specs.Said.{said}
 use Rattle.printing.specs.Sheet.{put}
 use Rattle.requests.specs.Kinds.{FieldSays}
-use Rattle.requests.specs.Rows.{NUMBER, OWN, ACT, UNBLOCK, VELOCITY-BACK-LONG}
+use Rattle.requests.specs.Rows.{NUMBER, OWN, ACT, UNBLOCK, VELOCITY-BACK-LONG, BICC-COMPACT}
 use Rattle.requests.specs.Words.{Asked, asks, nothing, askedOf}
 use Rattle.lines.specs.Lines.{refusal}
 use Rattle.codec_lines.specs.Codec.{codecLine}
+use Rattle.bicc_lines.specs.Bicc.{biccLine}
 use Rattle.number_lines.specs.Numbers.{numbersLine}
 use Rattle.velocity_lines.specs.Velocities.{velocitiesLine}
 use Rattle.block_lines.specs.Blocks.{noticeLine, blockDone}
@@ -30,7 +31,7 @@ blockTurn T which gs =
     let a = blockDone (T .states) which gs in
     turn (tables (a .states) (T .owners)) (noticeLine (a .answer) (a .buffer))
 
--- a row of the table, by its family: the codec's stand before `number`, those for numbers before `own`, those of the tables before `act`, then those that block from our side, then those for velocities
+-- a row of the table, by its family: the codec's stand before `number`, those for numbers before `own`, those of the tables before `act`, then those that block from our side, then those for velocities, and then BICC's
 unfoldable pub turnBy : Tables → ℕ → List FieldSays → Turn
 turnBy T which gs =
     if ltb which NUMBER then turn T (codecLine which gs)
@@ -39,6 +40,7 @@ turnBy T which gs =
     else if eqb which ACT then actTurn T gs
     else if leb which UNBLOCK then blockTurn T which gs
     else if leb which VELOCITY-BACK-LONG then turn T (velocitiesLine which gs)
+    else if leb which BICC-COMPACT then turn T (biccLine which gs)
     else badTurn T
 
 -- what is asked

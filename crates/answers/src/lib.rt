@@ -7,6 +7,7 @@ ghost use Rattle.requests.specs.Along.{saidIn};
 ghost use Rattle.table_lines.specs.Tables.{left, leftBy};
 ghost use Rattle.answers.specs.Turns.{turnBy, turnIn, withLineEnd};
 use requests::ACT;
+use requests::BICC_COMPACT;
 use requests::NUMBER;
 use requests::OWN;
 use requests::Request;
@@ -47,6 +48,9 @@ fn answer_request(
     }
     if request.which <= VELOCITY_BACK_LONG {
         return velocity_lines::velocities_line(request, octets, out);
+    }
+    if request.which <= BICC_COMPACT {
+        return bicc_lines::bicc_line(request, octets, out);
     }
     printing::put_text(b"bad line", out, 0)
 }

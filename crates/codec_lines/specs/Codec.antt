@@ -2,11 +2,9 @@
 use Prim.Native.Nat.{ℕ}
 use mathlib.Core.List.{List}
 use lib.Dec.{eqb}
-use lib.ListN.{take}
 use Rattle.octets.specs.Octet.{octets}
 use Rattle.octets.specs.Choice.{if_then_else_}
 use Rattle.octets.specs.Answer.{Answer, accepted, refused}
-use Rattle.octets.specs.Filled.{Done}
 use Rattle.isup.specs.Table.{shapeOf}
 use Rattle.isup.specs.Read.{readOf}
 use Rattle.finding.specs.Find.{Spot, locateOf}
@@ -14,17 +12,8 @@ use Rattle.isup.specs.Write.{writeOf, compactOf}
 use Rattle.requests.specs.Kinds.{FieldSays}
 use Rattle.requests.specs.Rows.{SHAPE, READ, WRITE, COMPACT}
 use Rattle.requests.specs.Words.{numberAt, octetAt, octetsAt}
-use Rattle.lines.specs.Lines.{shown, faultLine, octetsLine, lent}
+use Rattle.lines.specs.Lines.{shown, faultLine, octetsLine, compactLine, lent}
 use Rattle.read_lines.specs.Read.{shapeLine, readLine}
-
--- octets 230113, of the buffer that was lent; or the refusal with the reader's octet
-unfoldable pub againLine : Answer ℕ → List ℕ → List ℕ
-againLine (accepted n) buffer = shown "octets " (take n buffer)
-againLine (refused n at) buffer = faultLine n at
-
--- the same of what was done with the buffer
-abbrev pub compactLine : Done ℕ → List ℕ
-compactLine d = againLine (d .answer) (d .left)
 
 -- message 41 or defaults 41; or the refusal with its octet
 unfoldable pub foundLine : List ℕ → List ℕ → Answer Spot → List ℕ

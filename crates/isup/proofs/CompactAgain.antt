@@ -1,132 +1,71 @@
 -- Reading and writing again: the one compact form, or 12 where it cannot hold a length or a pointer, and nothing else.
-use Prim.Native.Nat.{ℕ, _+_, _*_, _/_, _%_, _≤_, _<_}
+use Prim.Native.Nat.{ℕ}
 use mathlib.Core.Path.{_≡_, refl, sym, _∙_, ap}
-use mathlib.Core.Bool.{true, false}
-use mathlib.Core.List.{List, [], _∷_, _++_}
-use mathlib.Core.Logic.{_⊎_, inl, inr, ⊎-elim}
+use mathlib.Core.List.{List}
 use native.Mathlib.Omega.{arith}
-use native.Mathlib.Nat.{mod-lt, mod-eq-of-lt, add-mul-mod-self-left, add-mul-div-left, div-eq-of-lt}
 use borrow.Author.Tests.{le-ltb}
-use lib.ListN.{length}
-use Rattle.octets.specs.Octet.{octet, octets, AllOctets}
-use Rattle.octets.specs.Answer.{accepted, refused, _then_}
+use Rattle.octets.specs.Octet.{AllOctets}
+use Rattle.octets.specs.Answer.{_then_}
 use Rattle.octets.specs.Filled.{leaving, roomFor}
-use Rattle.octets.specs.Faults.{Judges, fault}
-use Rattle.octets.proofs.Answer.{accepted-same, refused-accepted}
-use Rattle.octets.proofs.Filled.{judges-filled, room-judges}
-use Rattle.octets.proofs.Faults.{judges-done, judges-there, judges-absent, judges-then}
-use Rattle.writing.specs.Write.{order, orderOctets, writtenOf, exceeds, marks, contentsIn}
-use Rattle.layout.specs.Spans.{partOf}
-use Rattle.writing.specs.Compact.{saidWith, saidBy}
+use Rattle.octets.specs.Faults.{Judges}
 use Rattle.octets.specs.declared.Written.{Written}
 use Rattle.octets.specs.declared.Written.the-variants.{Refused}
 use Rattle.octets.specs.Told.{writtenTold}
-use Rattle.writing.proofs.Again.{said-fits, compact-is}
-use Rattle.writing.proofs.Held.{compact-held}
-use Rattle.writing.proofs.Shorter.{again-or-twelve}
-use Rattle.writing.proofs.Judged.{exceeds-exactly}
 use Rattle.octets.proofs.Told.{writing-determined, writing-keeps}
+use Rattle.layout.specs.Spans.{partOf}
+use Rattle.writing.specs.Write.{order}
+use Rattle.writing.specs.Compact.{saidWith}
+use Rattle.family.specs.Family.{familyWriteIn}
+use Rattle.family.specs.Forms.{FamilySays as FamilySaysSame}
+use Rattle.family.proofs.Family as family
+use Rattle.family.proofs.Judged as judged
 use Rattle.isup.specs.declared.Message.{Message}
-use Rattle.isup.specs.Read.{circuitOf, readOf}
-use Rattle.isup.specs.Write.{headOf, orderOf, writeIn, writeOf, againIn, compactIn, compactOf}
+use Rattle.isup.specs.Table.{isup}
+use Rattle.isup.specs.Read.{circuitOf}
+use Rattle.isup.specs.Write.{headOf, orderOf, writeIn, writeOf, compactIn, compactOf}
 use Rattle.isup.specs.WellFormed.{WellFormed}
-use Rattle.isup.specs.Compact.{CompactForm, Says}
-use Rattle.isup.specs.Faults.{readerFaults}
-use Rattle.isup.specs.WriteFaults.{CannotHold, compactFaults}
-use Rattle.isup.proofs.Exactly.{read-exactly}
-use Rattle.isup.proofs.Judged.{read-judges}
-use Rattle.isup.proofs.WriteBack.{write-reads-back-in}
-use Rattle.isup.proofs.Table.{table-two}
+use Rattle.isup.specs.Compact.{CompactForm, Says, SaysSame}
+use Rattle.isup.specs.WriteFaults.{compactFaults}
+use Rattle.isup.proofs.Circuit.{circuit-low}
+use Rattle.isup.proofs.Exactly.{framed}
+use Rattle.isup.proofs.WriteBack.{no-third, tight, saying, said}
 
 -- a message of octets, well formed
 module _ (m : List ℕ) (o : AllOctets m) (x : Message) (f : WellFormed m x) where
-  pub low : x .circuit ≤ 4095
-  low = let h : octet m 1 % 16 < 16 = mod-lt _ (omega arith) in omega (arith, f .circuit, o 0)
-
-  octet-kind : x .kind ≤ 255
-  octet-kind = omega (arith, f .kind, o 2)
-
   -- what is written again is what the message says, with the circuit number's spare bits 0
-  again-order : orderOf (x .circuit) (x .kind) (partOf m (x .parts .fixed)) (partOf m (x .parts .first)) (partOf m (x .parts .second)) (partOf m (x .parts .optional)) ≡ saidWith (headOf (x .circuit)) m 2 (x .parts)
+  again-order : orderOf (x .circuit) (x .kind) (partOf m (x .parts .fixed)) (partOf m (x .parts .first)) (partOf m (x .parts .second)) (partOf m (x .parts .optional)) ≡ saidWith (headOf (circuitOf m)) m 2 (x .parts)
   again-order =
-      let t = said-fits m 2 (f .shape) (x .parts) (f .params) (f .laid) (headOf (x .circuit)) .third (table-two (x .kind) (f .shape) (f .listed)) in
-      λ i. order (headOf (x .circuit)) (f .kind i) (partOf m (x .parts .fixed)) (partOf m (x .parts .first)) (partOf m (x .parts .second)) (sym t i) (partOf m (x .parts .optional))
+      let t = no-third m x f in
+      λ i. order (headOf (f .circuit i)) (f .kind i) (partOf m (x .parts .fixed)) (partOf m (x .parts .first)) (partOf m (x .parts .second)) (sym t i) (partOf m (x .parts .optional))
 
-  pub again-written : againIn m x ≡ writtenOf (f .shape) 268 (saidWith (headOf (x .circuit)) m 2 (x .parts))
-  unfolding writeIn
-  again-written = rw (le-ltb _ _ low, le-ltb _ _ octet-kind, f .listed) (ap (writtenOf (f .shape) 268) again-order)
+  -- so it is what the writer makes of what was read
+  pub compact-writes : compactIn m ≡ writeIn (x .circuit) (x .kind) (partOf m (x .parts .fixed)) (partOf m (x .parts .first)) (partOf m (x .parts .second)) (partOf m (x .parts .optional))
+  unfolding writeIn compactIn
+  compact-writes =
+      family.compact-writes isup m o (x .parts) (framed m x f) (headOf (circuitOf m)) refl
+      ∙ ap (familyWriteIn isup) (sym again-order)
+      ∙ rw (le-ltb 4095 (x .circuit) (omega (arith, f .circuit, circuit-low m o))) refl
 
-  pub compact-again : compactIn m ≡ againIn m x
-  unfolding compactIn
-  compact-again = rw (read-exactly m x .1 f) refl
+  -- to say the same is to say it to the family
+  pub same-said : (ys : List ℕ) → AllOctets ys → SaysSame m x ys → FamilySaysSame isup (headOf (circuitOf m)) m (x .parts) ys
+  same-said ys a s = (s .0 .parts, tight ys (s .0) (s .1), saying ys (s .0) a (s .1) _ _ _ _ _ _ (s .2) ∙ again-order)
 
-  pub compact-or-twelve-in : ((exceeds (marks (f .shape .opt) (contentsIn (f .shape) (saidBy m 2 (x .parts))) (partOf m (x .parts .optional))) ≡ true) × (compactIn m ≡ refused 12 0))
-      ⊎ ((exceeds (marks (f .shape .opt) (contentsIn (f .shape) (saidBy m 2 (x .parts))) (partOf m (x .parts .optional))) ≡ false)
-      × (compactIn m ≡ accepted (length (orderOctets (f .shape) (saidWith (headOf (x .circuit)) m 2 (x .parts))), orderOctets (f .shape) (saidWith (headOf (x .circuit)) m 2 (x .parts)))))
-  compact-or-twelve-in =
-      ⊎-elim (λ y. inl (y .0, compact-again ∙ again-written ∙ y .1)) (λ y. inr (y .0, compact-again ∙ again-written ∙ y .1))
-      (again-or-twelve m 2 268 (f .shape) (x .parts) (f .params) (headOf (x .circuit)) refl (f .laid) (f .most))
-
-  -- what it gives is in the compact form, and says the same: circuit, type, fixed octets, contents, optional run
-  pub compact-says-same-in : (n : ℕ) (ys : List ℕ) → compactIn m ≡ accepted (n, ys)
-      → (n ≡ length ys) × ((y : Message) × (readOf ys ≡ accepted y) × CompactForm ys y
-      × Says ys y (x .circuit) (x .kind) (partOf m (x .parts .fixed)) (partOf m (x .parts .first)) (partOf m (x .parts .second)) (partOf m (x .parts .optional)))
-  compact-says-same-in n ys e = write-reads-back-in (x .circuit) (x .kind) _ _ _ _ n ys (sym compact-again ∙ e)
-
--- the header of a message in compact form
-head-back : (m : List ℕ) → AllOctets m → octet m 1 < 16 → 2 ≤ length m → headOf (circuitOf m) ≡ octets m 0 2
-head-back [] o s l = absurd (omega arith)
-head-back (a ∷ []) o s l = absurd (omega arith)
-head-back (a ∷ b ∷ r) o s l =
-    let e : b % 16 ≡ b = mod-eq-of-lt s in
-    let h : (a + 256 * b) % 256 ≡ a = add-mul-mod-self-left a 256 b ∙ mod-eq-of-lt (o 0) in
-    let k : (a + 256 * b) / 256 ≡ b = add-mul-div-left a b (omega arith) ∙ (let z = div-eq-of-lt (o 0) in omega arith) in
-    rw (e, h, k) refl
-
--- a message that is in compact form already comes back as it is
-pub compact-unchanged-in : (m : List ℕ) (x : Message) → AllOctets m → CompactForm m x → compactIn m ≡ accepted (length m, m)
-compact-unchanged-in m x o c =
-    let f = c .formed in
-    let h : headOf (x .circuit) ≡ octets m 0 2 = ap headOf (f .circuit) ∙ head-back m o (c .spare) (omega (arith, f .least)) in
-    let q : orderOctets (f .shape) (saidWith (headOf (x .circuit)) m 2 (x .parts)) ≡ m = ap (λ (k : List ℕ). orderOctets (f .shape) (saidWith k m 2 (x .parts))) h ∙ sym (compact-is m 2 (f .shape) (x .parts) (f .params) (c .tight)) in
-    ⊎-elim
-    (λ y. absurd (let e = compact-held m 2 (f .shape) (x .parts) (f .params) o (c .tight) in let z : _≡_ {A = ℕ} 0 1 = cc in omega arith))
-    (λ y. y .1 ∙ (λ i. accepted (length (q i), q i)))
-    (compact-or-twelve-in m o x (c .formed))
+  pub said-same : (ys : List ℕ) → FamilySaysSame isup (headOf (circuitOf m)) m (x .parts) ys → SaysSame m x ys
+  said-same ys s =
+      let q = said ys (s .0) (x .circuit) (x .kind) (partOf m (x .parts .fixed)) (partOf m (x .parts .first)) (partOf m (x .parts .second)) (partOf m (x .parts .optional)) (omega (arith, f .circuit, circuit-low m o)) (s .1) (s .2 ∙ sym again-order) in
+      (q .0, q .2, q .3)
 
 -- two messages in compact form that say the same are the same octets
 pub compact-form-one : (m m′ : List ℕ) (x x′ : Message) → AllOctets m → AllOctets m′ → CompactForm m x → CompactForm m′ x′
     → Says m x (x′ .circuit) (x′ .kind) (partOf m′ (x′ .parts .fixed)) (partOf m′ (x′ .parts .first)) (partOf m′ (x′ .parts .second)) (partOf m′ (x′ .parts .optional)) → m ≡ m′
 compact-form-one m m′ x x′ o o′ c c′ s =
-    let a : againIn m x ≡ againIn m′ x′ = (λ i. writeIn (s .circuit i) (s .kind i) (s .fixed i) (s .first i) (s .second i) (s .run i)) in
-    let e = sym (compact-unchanged-in m x o c) ∙ compact-again m o x (c .formed) ∙ a ∙ sym (compact-again m′ o′ x′ (c′ .formed)) ∙ compact-unchanged-in m′ x′ o′ c′ in
-    ap (λ (z : ℕ × List ℕ). z .1) (accepted-same e)
+    family.compact-form-one isup m m′ (x .parts) (x′ .parts) o o′ (tight m x c) (tight m′ x′ c′)
+    (saying m x o c _ _ _ _ _ _ s ∙ sym (saying m′ x′ o′ c′ _ _ _ _ _ _ (record { circuit = refl; kind = refl; fixed = refl; first = refl; second = refl; run = refl })))
 
--- ---- refused exactly when
-again-judges : (m : List ℕ) (o : AllOctets m) (x : Message) → WellFormed m x → Judges (againIn m x) (fault 12 0 (CannotHold m) ∷ [])
-again-judges m o x f =
-    let fits = said-fits m 2 (f .shape) (x .parts) (f .params) (f .laid) (octets m 0 2) in
-    let ex = exceeds-exactly (f .shape) (saidBy m 2 (x .parts)) fits in
-    ⊎-elim
-    (λ y. rw (sym (compact-again m o x f) ∙ y .1) (judges-there (fault 12 0 (CannotHold m)) [] 0 (refl, (x, f, ex .0 (y .0))) (λ at h. h .0)))
-    (λ y. rw (sym (compact-again m o x f) ∙ y .1) (judges-absent (fault 12 0 (CannotHold m))
-    (λ at h.
-    let x′ = h .1 .0 in
-    let f′ = h .1 .1 in
-    let t = exceeds-exactly (h .1 .1 .shape) (saidBy m 2 (h .1 .0 .parts)) (said-fits m 2 (h .1 .1 .shape) (h .1 .0 .parts) (h .1 .1 .params) (h .1 .1 .laid) (octets m 0 2)) .1 (h .1 .2) in
-    ⊎-elim
-    (λ z. absurd (refused-accepted (sym (z .1) ∙ y .1)))
-    (λ z. let k : _≡_ {A = ℕ} 0 1 = (let u = z .0 in cc) in omega arith)
-    (compact-or-twelve-in m o (h .1 .0) (h .1 .1)))
-    (judges-done _)))
-    (compact-or-twelve-in m o x f)
-
-pub compact-judges : (m buffer : List ℕ) → AllOctets m → Judges (compactOf m buffer .answer) (compactFaults m buffer)
+-- refused exactly when
+pub compact-judges : (m buffer : List ℕ) → Judges (compactOf m buffer .answer) (compactFaults m buffer)
 unfolding compactIn compactOf
-compact-judges m buffer o =
-    judges-filled buffer (compactIn m then roomFor buffer) (compactFaults m buffer)
-    (room-judges (compactIn m) buffer (readerFaults m ++ (fault 12 0 (CannotHold m) ∷ []))
-    (judges-then (readOf m) (againIn m) (readerFaults m) _ (read-judges m) (λ x e. again-judges m o x (read-exactly m x .0 e))))
+compact-judges m buffer = judged.compact-judges isup m (headOf (circuitOf m)) buffer (λ h. refl)
 
 -- ---- any two answers that a contract allows are equal, and a refusal keeps the buffer
 pub write-determined : (circuit kind : ℕ) (fixed first second run buffer : List ℕ) (r t : Written) (left left′ : List ℕ)

@@ -4,14 +4,12 @@ use mathlib.Core.List.{List, [], append-nil}
 use Rattle.octets.specs.Answer.{accepted}
 use Rattle.octets.specs.Faults.{Judges}
 use Rattle.octets.proofs.Faults.{judges-done, judges-then}
-use Rattle.layout.specs.Container.{kindAt, partsOf}
-use Rattle.layout.proofs.Judged.{parts-judges}
-use Rattle.isup.specs.Table.{shapeOf}
+use Rattle.family.specs.Family.{readIn}
+use Rattle.family.proofs.Judged as family
+use Rattle.isup.specs.Table.{isup}
 use Rattle.isup.specs.Read.{message, readOf}
 use Rattle.isup.specs.Faults.{readerFaults}
 
 pub read-judges : (m : List ℕ) → Judges (readOf m) (readerFaults m)
 unfolding readOf
-read-judges m =
-    rw (← append-nil (readerFaults m))
-    (judges-then (partsOf m 2 268 (shapeOf (kindAt m 2))) (λ p. accepted (message m p)) (readerFaults m) [] (parts-judges m 2 268 (shapeOf (kindAt m 2))) (λ p e. judges-done (message m p)))
+read-judges m = rw (← append-nil (readerFaults m)) (judges-then (readIn isup m) (λ p. accepted (message m p)) (readerFaults m) [] (family.read-judges isup m) (λ p e. judges-done (message m p)))

@@ -3,10 +3,11 @@ pub mod Given
 pub mod Exactly
 pub mod Judged
 pub mod Determined
+pub mod Circuit
+pub mod Places
 pub mod Rewritten
 pub mod WriteBack
 pub mod CompactAgain
 pub mod Lent
-pub mod Places
 pub mod Rel
 pub mod Refutations

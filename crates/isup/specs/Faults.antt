@@ -1,12 +1,10 @@
 -- The faults of an ISUP message, in the paper's order.
 use Prim.Native.Nat.{ℕ}
 use mathlib.Core.List.{List}
-use Rattle.octets.specs.Octet.{octet}
 use Rattle.octets.specs.Faults.{Fault}
-use Rattle.layout.specs.Faults.{messageFaults}
-use Rattle.isup.specs.Limits.{longest}
-use Rattle.isup.specs.Table.{shapeOf}
+use Rattle.family.specs.Faults.{familyFaults}
+use Rattle.isup.specs.Table.{isup}
 
 -- the reader's: 1, 2, 3, 4; each variable pointer in turn 5 then 6; the optional pointer 5 then 7; then 8
 abbrev pub readerFaults : List ℕ → List Fault
-readerFaults m = messageFaults m 2 longest (shapeOf (octet m 2))
+readerFaults m = familyFaults isup m

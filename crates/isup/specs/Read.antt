@@ -4,10 +4,10 @@ use mathlib.Core.List.{List}
 use Rattle.octets.specs.Octet.{octet}
 use Rattle.octets.specs.Answer.{Answer, accepted, _then_}
 use Rattle.layout.specs.declared.Parts.{Parts}
-use Rattle.layout.specs.Container.{kindAt, partsOf}
+use Rattle.layout.specs.Container.{kindAt}
+use Rattle.family.specs.Family.{readIn}
 use Rattle.isup.specs.declared.Message.{Message}
-use Rattle.isup.specs.Limits.{longest}
-use Rattle.isup.specs.Table.{shapeOf}
+use Rattle.isup.specs.Table.{isup}
 
 -- octets 0 and 1: low eight bits first, high four bits in the low half of octet 1; the high half is ignored
 abbrev pub circuitOf : List ℕ → ℕ
@@ -19,4 +19,4 @@ message m p = record { circuit = circuitOf m; kind = kindAt m 2; parts = p }
 
 -- a message that is well formed, or the first of the reader's numbers with the octet that it is about
 unfoldable pub readOf : List ℕ → Answer Message
-readOf m = partsOf m 2 longest (shapeOf (kindAt m 2)) then λ p. accepted (message m p)
+readOf m = readIn isup m then λ p. accepted (message m p)

@@ -1,17 +1,13 @@
 -- The table of types: octets of the fixed part, variable parameters, and whether there is an optional part.
 use Prim.Native.Nat.{ℕ}
-use mathlib.Core.Bool.{Bool, true, false}
+use mathlib.Core.Bool.{true, false}
 use mathlib.Core.List.{List, [], _∷_}
-use Rattle.octets.specs.Choice.{if_then_else_}
-use Rattle.octets.specs.Among.{among}
 use Rattle.layout.specs.declared.Shape.{Shape}
 use Rattle.layout.specs.declared.Row.{Row}
-use Rattle.layout.specs.declared.Row.the-variants.{Has, Unknown}
+use Rattle.family.specs.Table.{line, look}
+use Rattle.family.specs.Family.{Family}
+use Rattle.isup.specs.Limits.{longest}
 use Rattle.isup.specs.Types.{IAM, SAM, COT, ACM, CON, ANM, REL, SUS, RES, RLC, RSC, BLO, UBL, BLA, UBA, GRS, CGB, CGU, CGBA, CGUA, GRA, CQM, CQR, CPG}
-
--- a line of the table: types, fixed, variable, optional
-abbrev pub line : List ℕ → ℕ → ℕ → Bool → List ℕ × Shape
-line ts f v o = (ts, record { fixed = f; vars = v; opt = o })
 
 -- the table, a line for each shape row
 abbrev pub table : List (List ℕ × Shape)
@@ -28,11 +24,10 @@ table =
     ∷ line (CQR ∷ []) 0 2 false
     ∷ []
 
--- the line that has the type
-abbrev pub look : ℕ → List (List ℕ × Shape) → Row
-look t [] = Unknown
-look t (l ∷ ls) = if among t (l .0) then Has (l .1) else look t ls
-
 -- what the table says of a type octet
 unfoldable pub shapeOf : ℕ → Row
 shapeOf t = look t table
+
+-- two octets of circuit number before the type, and 268 octets at the most
+abbrev pub isup : Family
+isup = record { width = 2; most = longest; row = shapeOf }

@@ -6,14 +6,11 @@ use lib.Dec.{ltb}
 use Rattle.octets.specs.Choice.{if_then_else_}
 use Rattle.octets.specs.Answer.{Answer, refused, _then_}
 use Rattle.octets.specs.Filled.{Done, done, roomFor}
-use Rattle.layout.specs.declared.Row.{Row}
-use Rattle.layout.specs.declared.Row.the-variants.{Has, Unknown}
-use Rattle.writing.specs.Write.{Order, order, writtenOf}
-use Rattle.layout.specs.Spans.{partOf}
-use Rattle.isup.specs.declared.Message.{Message}
-use Rattle.isup.specs.Limits.{longest, lastCircuit}
-use Rattle.isup.specs.Table.{shapeOf}
-use Rattle.isup.specs.Read.{readOf}
+use Rattle.writing.specs.Write.{Order, order}
+use Rattle.family.specs.Family.{familyWriteIn, familyCompactIn}
+use Rattle.isup.specs.Limits.{lastCircuit}
+use Rattle.isup.specs.Table.{isup}
+use Rattle.isup.specs.Read.{circuitOf}
 
 -- the circuit number: low eight bits first, then high four bits, the spare bits 0
 abbrev pub headOf : ℕ → List ℕ
@@ -23,29 +20,19 @@ headOf circuit = circuit % 256 ∷ circuit / 256 ∷ []
 abbrev pub orderOf : ℕ → ℕ → List ℕ → List ℕ → List ℕ → List ℕ → Order
 orderOf circuit kind fixed first second run = order (headOf circuit) kind fixed first second [] run
 
--- 3 for a type that is not in the table
-abbrev pub ofShape : Row → Order → Answer (ℕ × List ℕ)
-ofShape (Has s) o = writtenOf s longest o
-ofShape Unknown o = refused 3 0
-
--- 9 for a circuit number above 4095; a type is an octet, so 3 above 255
+-- 9 for a circuit number above 4095; then as in every family: 3 for a type that is not in the table, 10, 11, 12, 2
 unfoldable pub writeIn : ℕ → ℕ → List ℕ → List ℕ → List ℕ → List ℕ → Answer (ℕ × List ℕ)
 writeIn circuit kind fixed first second run =
     if ltb lastCircuit circuit then refused 9 0
-    else if ltb 255 kind then refused 3 0
-    else ofShape (shapeOf kind) (orderOf circuit kind fixed first second run)
+    else familyWriteIn isup (orderOf circuit kind fixed first second run)
 
 -- all that writing does: how many octets were written, or the refusal, 13 last; and the buffer afterwards
 unfoldable pub writeOf : ℕ → ℕ → List ℕ → List ℕ → List ℕ → List ℕ → List ℕ → Done ℕ
 writeOf circuit kind fixed first second run buffer = done buffer (writeIn circuit kind fixed first second run then roomFor buffer)
 
--- what a message says, written again
-abbrev pub againIn : List ℕ → Message → Answer (ℕ × List ℕ)
-againIn m x = writeIn (x .circuit) (x .kind) (partOf m (x .parts .fixed)) (partOf m (x .parts .first)) (partOf m (x .parts .second)) (partOf m (x .parts .optional))
-
--- reading and writing again: the reader's numbers with their octets, then the writer's
+-- reading and writing again, with the circuit number that was read: the reader's numbers with their octets, then the writer's
 unfoldable pub compactIn : List ℕ → Answer (ℕ × List ℕ)
-compactIn m = readOf m then againIn m
+compactIn m = familyCompactIn isup (headOf (circuitOf m)) m
 
 -- all that it does: how many octets were written, or the refusal, 13 last; and the buffer afterwards
 unfoldable pub compactOf : List ℕ → List ℕ → Done ℕ

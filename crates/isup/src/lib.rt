@@ -2,18 +2,15 @@
 ghost use mathlib.Core.Path.{_≡_};
 ghost use Prim.Native.Nat.{_+_, _≤_, _<_};
 ghost use lib.ListN.{length};
-ghost use Rattle.octets.specs.Answer.{accepted};
 ghost use Rattle.octets.specs.Filled.{leaving};
 ghost use Rattle.isup.specs.Table.{shapeOf};
 ghost use Rattle.isup.specs.Read.{circuitOf, readOf};
 ghost use Rattle.isup.specs.Write.{writeOf, compactOf};
-ghost use Rattle.layout.specs.Spans.{partOf};
 ghost use Rattle.octets.specs.Told.{writtenTold};
 ghost use Rattle.isup.specs.Told.{readingTold};
 use layout::Body;
 use layout::Parts;
 use layout::Row;
-use layout::Span;
 use octets::Written;
 use shapes::SHAPES;
 
@@ -146,39 +143,10 @@ pub fn write(
 pub fn compact(message: &[u8], out: &mut [u8]) -> Written
     ensures { λ r. ⌜ leaving (writtenTold r) (now (out .exit)) ≡ compactOf (now (message .entry)) (now (out .entry)) ⌝ }
 {
-    match read(message) {
-        Reading::Refused(n, at) => Written::Refused(n, at),
-        Reading::Read(x) => again(message, x, out),
-    }
-}
-
-// Writes again what a message says that reads so.
-fn again(message: &[u8], x: Message, out: &mut [u8]) -> Written
-    requires { ⌜ readOf (now message) ≡ accepted x ⌝ }
-    ensures { λ r. ⌜ leaving (writtenTold r) (now (out .exit)) ≡ compactOf (now (message .entry)) (now (out .entry)) ⌝ }
-{
-    let parts = x.parts;
-    let fixed = part_of(message, parts.fixed);
-    let first = part_of(message, parts.first);
-    let second = part_of(message, parts.second);
-    let optional = part_of(message, parts.optional);
-    write(
-        x.circuit as u32,
-        x.kind as u32,
-        fixed,
-        first,
-        second,
-        optional,
-        out,
-    )
-}
-
-// The octets of a span of the message.
-fn part_of(message: &[u8], span: Span) -> &[u8]
-    requires { ⌜ (span .from ≤ span .to) × (span .to ≤ length (now message)) ⌝ }
-    ensures { λ r. ⌜ now r ≡ partOf (now (message .entry)) span ⌝ }
-{
-    let from = span.from;
-    let to = span.to;
-    &message[from..to]
+    let kind = layout::kind_at(message, 2);
+    let head = [
+        layout::kind_at(message, 0),
+        layout::kind_at(message, 1) % 16,
+    ];
+    family::rewrite(message, 2, LONGEST as u16, shape_of(kind), &head, out)
 }

@@ -39,6 +39,15 @@ writtenLine (refused n at) buffer = refusal n
 abbrev pub octetsLine : Done ℕ → List ℕ
 octetsLine d = writtenLine (d .answer) (d .left)
 
+-- octets 230113, of the buffer that was lent; or the refusal with the reader's octet
+unfoldable pub againLine : Answer ℕ → List ℕ → List ℕ
+againLine (accepted n) buffer = shown "octets " (take n buffer)
+againLine (refused n at) buffer = faultLine n at
+
+-- the same of what was done with the buffer
+abbrev pub compactLine : Done ℕ → List ℕ
+compactLine d = againLine (d .answer) (d .left)
+
 -- as many octets as a line may lend, all 0
 unfoldable pub blank : List ℕ
 blank = replicate roomMost 0

@@ -23,7 +23,7 @@ use Rattle.llachurep.proofs.Speeds.{code-gives-judges}
 use Rattle.llachurep.specs.Boundary.{valuesOf, readGives, findGives}
 
 -- 13 comes with no octet
-room-placeless : {A : Type 0} (k : ℕ) (lent : List ℕ) (x : A × List ℕ) → UpTo k (roomFor lent x)
+pub room-placeless : {A : Type 0} (k : ℕ) (lent : List ℕ) (x : A × List ℕ) → UpTo k (roomFor lent x)
 room-placeless k lent x = up-to-if k (ltb (length lent) (length (x .1))) (λ _. up-to-refused k 13 0 (omega arith)) (λ _. up-to-accepted k x)
 
 pub read-gives-place : (m parts : List ℕ) (n at : ℕ) → readGives m parts .answer ≡ refused n at → at ≤ 268

@@ -10,10 +10,8 @@ use Rattle.octets.specs.Answer.{Answer, accepted, refused, _then_}
 use Rattle.octets.specs.Filled.{Done, roomFor}
 use Rattle.octets.proofs.Places.{first-so, refusal-so}
 use Rattle.octets.proofs.Filled.{done-kept}
-use Rattle.isup.specs.Write.{writeIn, writeOf, compactIn, compactOf}
+use Rattle.isup.specs.Write.{writeIn, writeOf}
 use Rattle.isup.proofs.WriteBack.{write-judges}
-use Rattle.isup.proofs.CompactAgain.{compact-judges}
-use Rattle.isup.proofs.Places.{compact-places-within}
 use Rattle.number.specs.Read.{readNumberOf, numberIn}
 use Rattle.number.specs.Write.{writeNumberOf, numberOctets}
 use Rattle.number.proofs.Judged.{read-number-judged, write-number-judged}
@@ -29,11 +27,11 @@ use Rattle.hub.proofs.Places.{act-places-within}
 use Rattle.llachurep.specs.Boundary.{packed, packedNumber, Given, given, givenBy, numberGiven, Called, called, calledBy, readGives, findGives}
 use Rattle.llachurep.specs.Refuses.{Refuses}
 use Rattle.llachurep.specs.Velocities.{codeGives}
-use Rattle.llachurep.proofs.Small.{write-small, compact-small, read-gives-small, find-gives-small, number-read-small, number-small, act-small, desk-small}
+use Rattle.llachurep.proofs.Small.{write-small, read-gives-small, find-gives-small, number-read-small, number-small, act-small, desk-small}
 use Rattle.llachurep.proofs.Places.{read-gives-place, find-gives-place, write-place, number-write-place, number-read-placeless, code-gives-place}
 use Rattle.llachurep.proofs.Keeps.{read-gives-keeps, find-gives-keeps}
 use Rattle.llachurep.proofs.Judged.{read-gives-judges, find-gives-judges}
-use Rattle.llachurep.proofs.Numbers.{AtLeastOne, read-from-one, find-from-one, write-from-one, compact-from-one, number-read-from-one, number-write-from-one, act-from-one, desk-from-one}
+use Rattle.llachurep.proofs.Numbers.{AtLeastOne, read-from-one, find-from-one, write-from-one, number-read-from-one, number-write-from-one, act-from-one, desk-from-one}
 use Rattle.llachurep.proofs.Speeds.{code-gives-small, code-gives-judges, code-gives-keeps}
 
 -- an answer whose values are below the unit, and whose refusals come times it, from 1 on, with an octet below it
@@ -60,16 +58,21 @@ module _ {A : Type 0} (unit : ℕ) (up : (n : ℕ) → 1 ≤ n → unit ≤ unit
   }
 
 -- of the functions that answer by 32 bits
-module _ (d : Done ℕ) (r : ℕ) (lent left : List ℕ) (small : (n : ℕ) → d .answer ≡ accepted n → n ≤ 65535) (from : (n at : ℕ) → d .answer ≡ refused n at → 1 ≤ n) (place : (n at : ℕ) → d .answer ≡ refused n at → at ≤ 268) (kept : (n at : ℕ) → d .answer ≡ refused n at → d .left ≡ lent) (e : given r left ≡ givenBy d) where
+module _ (d : Done ℕ) (r : ℕ) (lent left : List ℕ) (small : (n : ℕ) → d .answer ≡ accepted n → n ≤ 65535) (from : (n at : ℕ) → d .answer ≡ refused n at → 1 ≤ n) (place : (n at : ℕ) → d .answer ≡ refused n at → at ≤ 65535) (kept : (n at : ℕ) → d .answer ≡ refused n at → d .left ≡ lent) (e : given r left ≡ givenBy d) where
   value : r ≡ packed (d .answer)
   value = ap (λ (g : Given). g .value) e
 
-  by-32 : Refuses 65536 r (d .answer) lent left
-  by-32 =
+  pub by-32-wide : Refuses 65536 r (d .answer) lent left
+  by-32-wide =
       refusing 65536 (λ n h. omega arith) (λ n at h. (omega arith, omega arith)) (λ k h. omega arith) r (d .answer) lent left
       (λ a q. let v : r ≡ a = value ∙ ap packed q in omega (arith, small a q))
       (λ n at q. (value ∙ ap packed q, from n at q, omega (arith, place n at q)))
       (λ n at q. ap (λ (g : Given). g .left) e ∙ kept n at q)
+
+-- and of ISUP's, the octet that a refusal is about is 268 at the most
+by-32 : (d : Done ℕ) (r : ℕ) (lent left : List ℕ) → ((n : ℕ) → d .answer ≡ accepted n → n ≤ 65535) → ((n at : ℕ) → d .answer ≡ refused n at → 1 ≤ n) → ((n at : ℕ) → d .answer ≡ refused n at → at ≤ 268) → ((n at : ℕ) → d .answer ≡ refused n at → d .left ≡ lent)
+    → given r left ≡ givenBy d → Refuses 65536 r (d .answer) lent left
+by-32 d r lent left small from place = by-32-wide d r lent left small from (λ n at q. omega (arith, place n at q))
 
 pub read-refuses : (m parts : List ℕ) (r : ℕ) (left : List ℕ) → given r left ≡ givenBy (readGives m parts) → Refuses 65536 r (readGives m parts .answer) parts left
 read-refuses m parts r left = by-32 (readGives m parts) r parts left (read-gives-small m parts) (refusal-so AtLeastOne _ _ (read-gives-judges m parts) (read-from-one m parts)) (read-gives-place m parts) (read-gives-keeps m parts)
@@ -86,15 +89,6 @@ write-refuses circuit kind fixed first second run buffer r left =
     (refusal-so AtLeastOne _ _ (write-judges circuit kind fixed first second run buffer) (write-from-one circuit kind fixed first second run buffer))
     (write-place circuit kind fixed first second run buffer)
     (λ n at q. done-kept buffer (writeIn circuit kind fixed first second run then roomFor buffer) q)
-
--- the message is octets, as that of a lent slice is
-pub compact-refuses : (m buffer : List ℕ) → AllOctets m → (r : ℕ) (left : List ℕ) → given r left ≡ givenBy (compactOf m buffer) → Refuses 65536 r (compactOf m buffer .answer) buffer left
-unfolding compactOf
-compact-refuses m buffer o r left =
-    by-32 (compactOf m buffer) r buffer left (λ n q. omega (arith, compact-small m buffer n q))
-    (refusal-so AtLeastOne _ _ (compact-judges m buffer o) (compact-from-one m buffer))
-    (compact-places-within m buffer)
-    (λ n at q. done-kept buffer (compactIn m then roomFor buffer) q)
 
 pub number-write-refuses : (nature plan internal : ℕ) (signals buffer : List ℕ) (r : ℕ) (left : List ℕ) → given r left ≡ givenBy (writeNumberOf nature plan internal signals buffer)
     → Refuses 65536 r (writeNumberOf nature plan internal signals buffer .answer) buffer left

@@ -14,15 +14,11 @@ use Rattle.octets.specs.Choice.{if_then_else_}
 use Rattle.octets.specs.Answer.{Answer, accepted, refused, _then_}
 use Rattle.octets.specs.Filled.{Done, done, leaving, roomFor}
 use Rattle.octets.proofs.Answer.{refused-accepted, accepted-same, then-accepted, past-test}
-use Rattle.layout.specs.declared.Shape.{Shape}
-use Rattle.layout.specs.declared.Row.{Row}
-use Rattle.layout.specs.declared.Row.the-variants.{Has, Unknown}
-use Rattle.writing.specs.Write.{Order, writtenOf}
-use Rattle.writing.proofs.Taken.{written-taken}
+use Rattle.family.proofs.Family as family
 use Rattle.isup.specs.declared.Message.{Message}
-use Rattle.isup.specs.Table.{shapeOf}
+use Rattle.isup.specs.Table.{isup}
 use Rattle.isup.specs.Read.{readOf}
-use Rattle.isup.specs.Write.{orderOf, ofShape, writeIn, writeOf, againIn, compactIn, compactOf}
+use Rattle.isup.specs.Write.{orderOf, writeIn, writeOf}
 use Rattle.isup.proofs.Exactly.{read-exactly}
 use Rattle.isup.proofs.Rewritten.{read-inside}
 use Rattle.number.specs.declared.Number.{Number}
@@ -44,11 +40,11 @@ use Rattle.octets.proofs.Filled.{done-accepted}
 use Rattle.llachurep.specs.Boundary.{Small, valuesOf, readGives, findGives}
 
 -- an answer with what it leaves
-whole-done : {A : Type 0} {d : Done A} {a : A} → d .answer ≡ accepted a → d ≡ leaving (accepted a) (d .left)
+pub whole-done : {A : Type 0} {d : Done A} {a : A} → d .answer ≡ accepted a → d ≡ leaving (accepted a) (d .left)
 whole-done {A} {d} e = λ i. leaving (e i) (d .left)
 
 -- what is accepted with room was accepted before
-roomy : {A : Type 0} (buffer : List ℕ) (x : Answer (A × List ℕ)) {a : A} → done buffer (x then roomFor buffer) .answer ≡ accepted a → (octets : List ℕ) × (x ≡ accepted (a, octets))
+pub roomy : {A : Type 0} (buffer : List ℕ) (x : Answer (A × List ℕ)) {a : A} → done buffer (x then roomFor buffer) .answer ≡ accepted a → (octets : List ℕ) × (x ≡ accepted (a, octets))
 roomy {A} buffer (accepted y) {a} e = go (ltb (length buffer) (length (y .1))) e
   where
     go : (t : Bool) → done buffer (if t then refused 13 0 else accepted y) .answer ≡ accepted a → (octets : List ℕ) × (accepted y ≡ accepted (a, octets))
@@ -57,32 +53,15 @@ roomy {A} buffer (accepted y) {a} e = go (ltb (length buffer) (length (y .1))) e
 roomy buffer (refused n at) e = absurd (refused-accepted e)
 
 -- a written message has 268 octets at the most
-order-small : (s : Shape) (o : Order) (n : ℕ) (octets : List ℕ) → writtenOf s 268 o ≡ accepted (n, octets) → n ≤ 268
-order-small s o n octets e = let t = written-taken s 268 o n octets e in omega (arith, t .count, ap length (t .octets), t .short)
-
-shape-small : (r : Row) (o : Order) (n : ℕ) (octets : List ℕ) → ofShape r o ≡ accepted (n, octets) → n ≤ 268
-shape-small (Has s) o n octets e = order-small s o n octets e
-shape-small Unknown o n octets e = absurd (refused-accepted e)
-
 write-in-small : (circuit kind : ℕ) (fixed first second run : List ℕ) (n : ℕ) (octets : List ℕ) → writeIn circuit kind fixed first second run ≡ accepted (n, octets) → n ≤ 268
 unfolding writeIn
-write-in-small circuit kind fixed first second run n octets e =
-    let a = past-test 9 0 (ltb 4095 circuit) e in
-    let b = past-test 3 0 (ltb 255 kind) (a .1) in
-    shape-small (shapeOf kind) (orderOf circuit kind fixed first second run) n octets (b .1)
+write-in-small circuit kind fixed first second run n octets e = family.written-small isup (orderOf circuit kind fixed first second run) n octets (past-test 9 0 (ltb 4095 circuit) e .1)
 
 pub write-small : (circuit kind : ℕ) (fixed first second run buffer : List ℕ) (n : ℕ) → writeOf circuit kind fixed first second run buffer .answer ≡ accepted n → n ≤ 268
 unfolding writeOf
 write-small circuit kind fixed first second run buffer n e =
     let r = roomy buffer (writeIn circuit kind fixed first second run) e in
     write-in-small circuit kind fixed first second run n (r .0) (r .1)
-
-pub compact-small : (m buffer : List ℕ) (n : ℕ) → compactOf m buffer .answer ≡ accepted n → n ≤ 268
-unfolding compactOf compactIn
-compact-small m buffer n e =
-    let r = roomy buffer (readOf m then againIn m) e in
-    let t = then-accepted (readOf m) (againIn m) (r .1) in
-    write-in-small _ _ _ _ _ _ n (r .0) (t .2)
 
 -- the parts of a message that reads
 pub read-small : (m : List ℕ) (x : Message) → readOf m ≡ accepted x → Small x

@@ -6,6 +6,7 @@ use Rattle.octets.specs.Choice.{if_then_else_}
 use Rattle.octets.specs.Answer.{Answer, accepted, refused, _then_}
 use Rattle.octets.specs.Filled.{Done, done, roomFor}
 use Rattle.layout.specs.declared.Span.{Span}
+use Rattle.layout.specs.declared.Parts.{Parts}
 use Rattle.layout.specs.Spans.{spanSize}
 use Rattle.isup.specs.declared.Message.{Message}
 use Rattle.isup.specs.Read.{readOf}
@@ -35,23 +36,30 @@ givenBy d = given (packed (d .answer)) (d .left)
 abbrev pub fixedStart : Span → ℕ
 fixedStart s = if eqb (s .from) (s .to) then 0 else s .from
 
--- circuit, type, then start and length of the fixed part, of the first and of the second contents, and of the optional run
-abbrev pub valuesOf : Message → List ℕ
-valuesOf x =
-    x .circuit ∷ x .kind
-    ∷ fixedStart (x .parts .fixed) ∷ spanSize (x .parts .fixed)
-    ∷ x .parts .first .from ∷ spanSize (x .parts .first)
-    ∷ x .parts .second .from ∷ spanSize (x .parts .second)
-    ∷ x .parts .optional .from ∷ spanSize (x .parts .optional)
+-- start and length of the fixed part, of the first and of the second contents, and of the optional run
+abbrev pub placesOf : Parts → List ℕ
+placesOf p =
+    fixedStart (p .fixed) ∷ spanSize (p .fixed)
+    ∷ p .first .from ∷ spanSize (p .first)
+    ∷ p .second .from ∷ spanSize (p .second)
+    ∷ p .optional .from ∷ spanSize (p .optional)
     ∷ []
+
+-- circuit, type, then those
+abbrev pub valuesOf : Message → List ℕ
+valuesOf x = x .circuit ∷ x .kind ∷ placesOf (x .parts)
 
 -- no part ends before it starts, or past what 16 bits hold
 abbrev pub InSixteenBits : Span → Type 0
 InSixteenBits s = (s .from ≤ s .to) × (s .to ≤ 65535)
 
 -- all parts of a message are so
+abbrev pub SmallParts : Parts → Type 0
+SmallParts p = InSixteenBits (p .fixed) × InSixteenBits (p .first) × InSixteenBits (p .second) × InSixteenBits (p .optional)
+
+-- of ISUP
 abbrev pub Small : Message → Type 0
-Small x = InSixteenBits (x .parts .fixed) × InSixteenBits (x .parts .first) × InSixteenBits (x .parts .second) × InSixteenBits (x .parts .optional)
+Small x = SmallParts (x .parts)
 
 -- reading: 10 numbers; the reader's numbers, then 13 where there is no room for them
 unfoldable pub readGives : List ℕ → List ℕ → Done ℕ

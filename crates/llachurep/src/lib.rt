@@ -1,4 +1,4 @@
-// The boundary: the proved functions for C and Rust. Answers are one number, 65536 * N + v: N is the refusal's number, 0 where there is none; v is then the octet that it is about, 0 where it is about none. A refusal changes nothing that was lent.
+// The boundary: the proved functions for C and Rust; those that serve both families of messages are in `families`. Answers are one number, 65536 * N + v: N is the refusal's number, 0 where there is none; v is then the octet that it is about, 0 where it is about none. A refusal changes nothing that was lent.
 ghost use mathlib.Core.Path.{_≡_};
 ghost use Prim.Native.Nat.{ℕ, _+_, _*_, _≤_};
 ghost use lib.ListN.{length};
@@ -7,7 +7,7 @@ ghost use mathlib.Core.Bool.{not};
 ghost use lib.Dec.{eqb};
 ghost use Rattle.octets.specs.Answer.{accepted, refused};
 ghost use Rattle.octets.specs.Filled.{done, roomFor, filled};
-ghost use Rattle.isup.specs.Write.{writeOf, compactOf};
+ghost use Rattle.isup.specs.Write.{writeOf};
 ghost use Rattle.number.specs.Read.{readNumberOf};
 ghost use Rattle.number.specs.Write.{writeNumberOf};
 ghost use Rattle.hub.specs.Tables.{tables};
@@ -116,14 +116,6 @@ pub extern "C" fn llachurep_write(
     ensures { λ r. ⌜ given r (now (out .exit)) ≡ givenBy (writeOf circuit kind (now (fixed .entry)) (now (first .entry)) (now (second .entry)) (now (optional .entry)) (now (out .entry))) ⌝ }
 {
     written(isup::write(circuit, kind, fixed, first, second, optional, out))
-}
-
-// Reads a message and writes it again, in its compact form, to the front of `out`. Accepted: how many octets were written. Refused with the reader's numbers and octets, then 12, then 13.
-#[no_mangle]
-pub extern "C" fn llachurep_compact(message: &[u8], out: &mut [u8]) -> u32
-    ensures { λ r. ⌜ given r (now (out .exit)) ≡ givenBy (compactOf (now (message .entry)) (now (out .entry))) ⌝ }
-{
-    written(isup::compact(message, out))
 }
 
 // Gives a stretch's start and length, or 13.

@@ -24,11 +24,11 @@ fn part(message: &[u8], span: Span) -> &[u8]
     lines::stretch(message, from, to - from)
 }
 
-// Puts what a type's shape is at the front of `out`, and answers the next place.
-pub fn say_shape(kind: u8, out: &mut [u8]) -> usize
-    ensures { λ r. ⌜ sheet (now (out .exit)) r ≡ pour (sheet (now (out .entry)) 0) (shapeLine (shapeOf kind)) ⌝ }
+// Puts what a row of a family's table says at the front of `out`, and answers the next place.
+pub fn say_row(row: Row, out: &mut [u8]) -> usize
+    ensures { λ r. ⌜ sheet (now (out .exit)) r ≡ pour (sheet (now (out .entry)) 0) (shapeLine row) ⌝ }
 {
-    match isup::shape_of(kind) {
+    match row {
         Row::Unknown => lines::say_refusal(3, out),
         Row::Has(shape) => {
             let fixed = lines::put_count(b"fixed ", shape.fixed as u32, out, 0);
@@ -41,8 +41,15 @@ pub fn say_shape(kind: u8, out: &mut [u8]) -> usize
     }
 }
 
-// Puts the parts of a message.
-fn put_parts(message: &[u8], parts: Parts, out: &mut [u8], at: usize) -> usize
+// Puts what a type's shape is at the front of `out`, and answers the next place.
+pub fn say_shape(kind: u8, out: &mut [u8]) -> usize
+    ensures { λ r. ⌜ sheet (now (out .exit)) r ≡ pour (sheet (now (out .entry)) 0) (shapeLine (shapeOf kind)) ⌝ }
+{
+    say_row(isup::shape_of(kind), out)
+}
+
+// Puts the parts of a message of any family from `at` on, and answers the next place. A third variable part is not shown.
+pub fn put_parts(message: &[u8], parts: Parts, out: &mut [u8], at: usize) -> usize
     ensures { λ r. ⌜ sheet (now (out .exit)) r ≡ pour (sheet (now (out .entry)) at) (partsLine (now (message .entry)) parts) ⌝ }
 {
     let fixed = lines::put_shown(b" fixed ", part(message, parts.fixed), out, at);

@@ -69,6 +69,22 @@ VELOCITY-BACK = 15
 abbrev pub VELOCITY-BACK-LONG : ℕ
 VELOCITY-BACK-LONG = 16
 
+-- bicc-shape TYPE
+abbrev pub BICC-SHAPE : ℕ
+BICC-SHAPE = 17
+
+-- bicc-read MESSAGE
+abbrev pub BICC-READ : ℕ
+BICC-READ = 18
+
+-- bicc-write CODE TYPE FIXED FIRST SECOND OPTIONAL ROOM
+abbrev pub BICC-WRITE : ℕ
+BICC-WRITE = 19
+
+-- bicc-compact MESSAGE ROOM
+abbrev pub BICC-COMPACT : ℕ
+BICC-COMPACT = 20
+
 -- a line that is no request
 abbrev pub BAD : ℕ
 BAD = 255

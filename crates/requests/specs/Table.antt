@@ -91,6 +91,10 @@ forms =
     ∷ row "velocity" "wwww"
     ∷ row "velocity-back" "hh"
     ∷ row "velocity-back" "hhvw"
+    ∷ row "bicc-shape" "o"
+    ∷ row "bicc-read" "s"
+    ∷ row "bicc-write" "nossssr"
+    ∷ row "bicc-compact" "sr"
     ∷ []
 
 -- the kinds of a form's fields

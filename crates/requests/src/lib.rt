@@ -74,6 +74,18 @@ pub const VELOCITY_BACK: usize = 15;
 // velocity-back BEARING SPEED VERTICAL MARK
 pub const VELOCITY_BACK_LONG: usize = 16;
 
+// bicc-shape TYPE
+pub const BICC_SHAPE: usize = 17;
+
+// bicc-read MESSAGE
+pub const BICC_READ: usize = 18;
+
+// bicc-write CODE TYPE FIXED FIRST SECOND OPTIONAL ROOM
+pub const BICC_WRITE: usize = 19;
+
+// bicc-compact MESSAGE ROOM
+pub const BICC_COMPACT: usize = 20;
+
 // A line that is no request.
 pub const BAD: usize = 255;
 
@@ -410,6 +422,30 @@ fn row_of(key: u64) -> Row
             which: VELOCITY_BACK,
             letters: 0x6868,
             longer: 0x77766868,
+        },
+        // bicc-shape o
+        58954803452526 => Row {
+            which: BICC_SHAPE,
+            letters: 0x6f,
+            longer: 0,
+        },
+        // bicc-read s
+        1527436824174 => Row {
+            which: BICC_READ,
+            letters: 0x73,
+            longer: 0,
+        },
+        // bicc-write nossssr
+        60578842618478 => Row {
+            which: BICC_WRITE,
+            letters: 0x72737373736f6e,
+            longer: 0,
+        },
+        // bicc-compact sr
+        166775585642170990 => Row {
+            which: BICC_COMPACT,
+            letters: 0x7273,
+            longer: 0,
         },
         _ => Row {
             which: BAD,

@@ -7,7 +7,7 @@ use Rattle.requests.specs.Along.{saidIn}
 use Rattle.block_lines.specs.Blocks.{Blocked}
 use Rattle.table_lines.specs.Tables.{Turn, left, leftBy}
 use Rattle.table_lines.proofs.Leaving.{left-same}
-use Rattle.answers.proofs.Turned.{turn-codec, turn-numbers, turn-tables, turn-hub, turn-blocks, turn-velocities, turn-none, table-any, block-any}
+use Rattle.answers.proofs.Turned.{turn-codec, turn-numbers, turn-tables, turn-hub, turn-blocks, turn-velocities, turn-bicc, turn-none, table-any, block-any}
 use borrow.Author.Needs.{needs}
 use Rattle.answers.proofs.answer_request.Statement.{statement}
 use Rattle.answers.proofs.answer_request.Tie as tie
@@ -97,19 +97,30 @@ returns-6 c =
     let a = c .before .before .before .before .before .before .before .before .before .before .before .before .before .before .before .before .before .before .before .before .args in
     left-same refl (c .before .before .velocities-line .ensures) ∙ ap (λ (x : Turn). leftBy x (sheet (now (a .out)) 0)) (turn-velocities (tables (now (a .states)) (now (a .owners))) (a .request .which) (saidIn (now (a .octets)) (a .request .fields)) (c .before .before .before .before .before .before .before .before .if4 .left) (c .before .before .before .before .before .before .if5 .left) (c .before .before .before .before .if6 .taken))
 
-slice-aggregate-put-text : tie.Need-slice-aggregate-put-text
-slice-aggregate-put-text c = search needs
-
-put-text-requires : tie.Need-put-text-requires
-put-text-requires c κs = search needs
+bicc-line-requires : tie.Need-bicc-line-requires
+bicc-line-requires c κs = search needs
 
 same-length-12 : tie.Need-same-length-12
 same-length-12 c = search needs
 
 returns-7 : tie.Need-returns-7
 returns-7 c =
-    let a = c .before .before .before .before .before .before .before .before .before .before .before .before .before .before .before .before .before .before .before .before .before .args in
-    left-same refl (c .before .before .put-text .ensures) ∙ ap (λ (x : Turn). leftBy x (sheet (now (a .out)) 0)) (turn-none (tables (now (a .states)) (now (a .owners))) (a .request .which) (saidIn (now (a .octets)) (a .request .fields)) (c .before .before .before .before .before .before .before .before .before .if4 .left) (c .before .before .before .before .before .if6 .left))
+    let a = c .before .before .before .before .before .before .before .before .before .before .before .before .before .before .before .before .before .before .before .before .before .before .args in
+    left-same refl (c .before .before .bicc-line .ensures) ∙ ap (λ (x : Turn). leftBy x (sheet (now (a .out)) 0)) (turn-bicc (tables (now (a .states)) (now (a .owners))) (a .request .which) (saidIn (now (a .octets)) (a .request .fields)) (c .before .before .before .before .before .before .before .before .before .before .if4 .left) (c .before .before .before .before .before .before .if6 .left) (c .before .before .before .before .if7 .taken))
+
+slice-aggregate-put-text : tie.Need-slice-aggregate-put-text
+slice-aggregate-put-text c = search needs
+
+put-text-requires : tie.Need-put-text-requires
+put-text-requires c κs = search needs
+
+same-length-13 : tie.Need-same-length-13
+same-length-13 c = search needs
+
+returns-8 : tie.Need-returns-8
+returns-8 c =
+    let a = c .before .before .before .before .before .before .before .before .before .before .before .before .before .before .before .before .before .before .before .before .before .before .before .args in
+    left-same refl (c .before .before .put-text .ensures) ∙ ap (λ (x : Turn). leftBy x (sheet (now (a .out)) 0)) (turn-none (tables (now (a .states)) (now (a .owners))) (a .request .which) (saidIn (now (a .octets)) (a .request .fields)) (c .before .before .before .before .before .before .before .before .before .before .before .if4 .left) (c .before .before .before .before .before .if7 .left))
 
 pub answer-request-spec : {M : Type 1} → statement M
 answer-request-spec =
@@ -138,7 +149,10 @@ answer-request-spec =
     velocities-line-requires
     same-length-11
     returns-6
+    bicc-line-requires
+    same-length-12
+    returns-7
     slice-aggregate-put-text
     put-text-requires
-    same-length-12
-    returns-7)
+    same-length-13
+    returns-8)

@@ -1,7 +1,7 @@
 use Rattle.octets.specs.Told.{writtenTold}
 use Rattle.octets.specs.declared.Written.{Written}
 use Rattle.printing.specs.Sheet.{sheet, pour}
-use Rattle.codec_lines.specs.Codec.{againLine}
+use Rattle.lines.specs.Lines.{againLine}
 use native.Mathlib.Omega.{arith}
 use denote.Ref.{now}
 use mathlib.Core.Path.{sym, _∙_, ap}

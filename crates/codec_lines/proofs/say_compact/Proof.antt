@@ -6,7 +6,7 @@ use Rattle.isup.proofs.Places.{compact-places-within}
 use Rattle.octets.specs.Filled.{Done}
 use Rattle.printing.specs.Sheet.{sheet, pour}
 use Rattle.requests.proofs.Said.{number-at, octets-at}
-use Rattle.codec_lines.specs.Codec.{compactLine}
+use Rattle.lines.specs.Lines.{compactLine}
 use borrow.Author.Needs.{needs}
 use Rattle.codec_lines.proofs.say_compact.Statement.{statement}
 use Rattle.codec_lines.proofs.say_compact.Tie as tie

@@ -1,32 +1,50 @@
+use mathlib.Core.Path.{_∙_}
 use denote.Ref.{now}
-use Rattle.isup.proofs.Given.{read-message, read-refused}
-use Rattle.isup.proofs.Rewritten.{refused-compact}
+use native.Mathlib.Omega.{arith}
+use Rattle.isup.proofs.Rewritten.{compact-given}
 use borrow.Author.Needs.{needs}
 use Rattle.isup.proofs.compact.Statement.{statement}
 use Rattle.isup.proofs.compact.Tie as tie
 
-read-requires : tie.Need-read-requires
-read-requires c κs = search needs
+kind-at-requires : tie.Need-kind-at-requires
+kind-at-requires c κs = search needs
 
-enum-known-n : tie.Need-enum-known-n
-enum-known-n c = search needs
+kind-at-requires-2 : tie.Need-kind-at-requires-2
+kind-at-requires-2 c κs = search needs
 
-enum-known-x : tie.Need-enum-known-x
-enum-known-x c = search needs
+kind-at-requires-3 : tie.Need-kind-at-requires-3
+kind-at-requires-3 c κs = search needs
 
-again-requires : tie.Need-again-requires
-again-requires c κs = read-message (now (c .before .before .before .before .before .before .before .args .message)) _ (c .before .before .before .before .read .ensures) _ (c .before .before .x .given .1)
+cast-rewrite : tie.Need-cast-rewrite
+cast-rewrite c = search needs
 
-returns : tie.Need-returns
-returns c = let a = c .before .before .before .before .before .before .args in refused-compact (now (a .message)) (now (a .out)) _ _ (read-refused (now (a .message)) _ (c .before .before .before .read .ensures) _ _ (c .before .n .given .1))
+shape-of-requires : tie.Need-shape-of-requires
+shape-of-requires c κs = search needs
+
+slice-aggregate-rewrite : tie.Need-slice-aggregate-rewrite
+slice-aggregate-rewrite c = search needs
+
+rewrite-requires : tie.Need-rewrite-requires
+rewrite-requires c κs = search needs
 
 same-length : tie.Need-same-length
 same-length c = search needs
 
-returns-2 : tie.Need-returns-2
-returns-2 c = search needs
+returns : tie.Need-returns
+returns c = let a = c .before .before .before .before .before .before .before .before .before .before .before .args in
+    c .before .before .rewrite .ensures
+    ∙ compact-given (now (a .message)) (λ i. omega (arith, c .before .before .before .before .before .before .before .before .before .before .shared-slice-known .given i)) _ _ _ _ (now (a .out)) (c .before .before .before .before .before .before .before .kind-at2 .ensures) (c .before .before .before .before .before .before .kind-at3 .ensures) (c .before .before .before .before .before .before .before .before .kind-at .ensures) (c .before .before .before .before .before .shape-of .ensures)
 
 pub compact-spec : {M : Type 1} → statement M
 compact-spec =
     tie.close
-    (tie.spec read-requires enum-known-n enum-known-x again-requires returns same-length returns-2)
+    (tie.spec
+    kind-at-requires
+    kind-at-requires-2
+    kind-at-requires-3
+    cast-rewrite
+    shape-of-requires
+    slice-aggregate-rewrite
+    rewrite-requires
+    same-length
+    returns)

@@ -1,9 +1,8 @@
-use Rattle.printing.specs.Sheet.{sheet, pour}
-use Rattle.layout.specs.declared.Row.{Row}
-use Rattle.read_lines.specs.Read.{shapeLine, optionalWord}
-use Rattle.lines.proofs.Pouring.{and-then}
+use mathlib.Core.Path.{_∙_, ap}
 use denote.Ref.{now}
-use mathlib.Core.Path.{sym, _∙_, ap}
+use Rattle.layout.specs.declared.Row.{Row}
+use Rattle.printing.specs.Sheet.{sheet, pour}
+use Rattle.read_lines.specs.Read.{shapeLine}
 use borrow.Author.Needs.{needs}
 use Rattle.read_lines.proofs.say_shape.Statement.{statement}
 use Rattle.read_lines.proofs.say_shape.Tie as tie
@@ -11,87 +10,15 @@ use Rattle.read_lines.proofs.say_shape.Tie as tie
 shape-of-requires : tie.Need-shape-of-requires
 shape-of-requires c κs = search needs
 
-enum-told : tie.Need-enum-told
-enum-told c = search needs
-
-say-refusal-requires : tie.Need-say-refusal-requires
-say-refusal-requires c κs = search needs
-
-enum-known-shape : tie.Need-enum-known-shape
-enum-known-shape c = search needs
-
-slice-aggregate-put-count : tie.Need-slice-aggregate-put-count
-slice-aggregate-put-count c = search needs
-
-cast-put-count : tie.Need-cast-put-count
-cast-put-count c = search needs
-
-put-count-requires : tie.Need-put-count-requires
-put-count-requires c κs = search needs
-
-slice-aggregate-put-count-2 : tie.Need-slice-aggregate-put-count-2
-slice-aggregate-put-count-2 c = search needs
-
-cast-put-count-2 : tie.Need-cast-put-count-2
-cast-put-count-2 c = search needs
-
-put-count-requires-2 : tie.Need-put-count-requires-2
-put-count-requires-2 c κs = search needs
-
-slice-aggregate-put-text : tie.Need-slice-aggregate-put-text
-slice-aggregate-put-text c = search needs
-
-put-text-requires : tie.Need-put-text-requires
-put-text-requires c κs = search needs
+say-row-requires : tie.Need-say-row-requires
+say-row-requires c κs = search needs
 
 same-length : tie.Need-same-length
 same-length c = search needs
 
 returns : tie.Need-returns
-unfolding shapeLine
-returns c = (let t1 = and-then _ _ _ (c .before .before .before .before .before .before .before .before .before .before .before .before .before .before .put-count .ensures) (c .before .before .before .before .before .before .before .before .put-count2 .ensures) in let t2 = and-then _ _ _ t1 (rw (← ap optionalWord (c .before .before .before .before .before .if1 .taken)) at (c .before .before .put-text .ensures)) in t2) ∙ ap (λ (x : Row). pour (sheet (now (c .before .before .before .before .before .before .before .before .before .before .before .before .before .before .before .before .before .before .before .before .before .before .before .args .out)) 0) (shapeLine x)) (sym (c .before .before .before .before .before .before .before .before .before .before .before .before .before .before .before .before .before .before .before .shape .given .1) ∙ c .before .before .before .before .before .before .before .before .before .before .before .before .before .before .before .before .before .before .before .before .before .shape-of .ensures)
-
-slice-aggregate-put-text-2 : tie.Need-slice-aggregate-put-text-2
-slice-aggregate-put-text-2 c = search needs
-
-put-text-requires-2 : tie.Need-put-text-requires-2
-put-text-requires-2 c κs = search needs
-
-same-length-2 : tie.Need-same-length-2
-same-length-2 c = search needs
-
-returns-2 : tie.Need-returns-2
-unfolding shapeLine
-returns-2 c = (c .before .before .say-refusal .ensures) ∙ ap (λ (x : Row). pour (sheet (now (c .before .before .before .before .before .before .before .before .args .out)) 0) (shapeLine x)) (sym (c .before .before .before .before .enum-told .given .1) ∙ c .before .before .before .before .before .before .shape-of .ensures)
-
-same-length-3 : tie.Need-same-length-3
-same-length-3 c = search needs
-
-returns-3 : tie.Need-returns-3
-unfolding shapeLine
-returns-3 c = (let t1 = and-then _ _ _ (c .before .before .before .before .before .before .before .before .before .before .before .before .before .before .put-count .ensures) (c .before .before .before .before .before .before .before .before .put-count2 .ensures) in let t2 = and-then _ _ _ t1 (rw (← ap optionalWord (c .before .before .before .before .before .if1 .left)) at (c .before .before .put-text2 .ensures)) in t2) ∙ ap (λ (x : Row). pour (sheet (now (c .before .before .before .before .before .before .before .before .before .before .before .before .before .before .before .before .before .before .before .before .before .before .before .args .out)) 0) (shapeLine x)) (sym (c .before .before .before .before .before .before .before .before .before .before .before .before .before .before .before .before .before .before .before .shape .given .1) ∙ c .before .before .before .before .before .before .before .before .before .before .before .before .before .before .before .before .before .before .before .before .before .shape-of .ensures)
+returns c = let a = c .before .before .before .before .before .before .args in
+    c .before .before .say-row .ensures ∙ ap (λ (x : Row). pour (sheet (now (a .out)) 0) (shapeLine x)) (c .before .before .before .before .shape-of .ensures)
 
 pub say-shape-spec : {M : Type 1} → statement M
-say-shape-spec =
-    tie.close
-    (tie.spec
-    shape-of-requires
-    enum-told
-    say-refusal-requires
-    enum-known-shape
-    slice-aggregate-put-count
-    cast-put-count
-    put-count-requires
-    slice-aggregate-put-count-2
-    cast-put-count-2
-    put-count-requires-2
-    slice-aggregate-put-text
-    put-text-requires
-    same-length
-    returns
-    slice-aggregate-put-text-2
-    put-text-requires-2
-    same-length-2
-    returns-2
-    same-length-3
-    returns-3)
+say-shape-spec = tie.close (tie.spec shape-of-requires say-row-requires same-length returns)

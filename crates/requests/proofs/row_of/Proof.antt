@@ -66,8 +66,24 @@ unfolding rowIn keyOf digitsOf lettersAll letterOf
 returns-15 c = rw (c .match .keys15)
 
 returns-16 : tie.Need-returns-16
+unfolding rowIn keyOf digitsOf lettersAll letterOf
+returns-16 c = rw (c .match .keys16)
+
+returns-17 : tie.Need-returns-17
+unfolding rowIn keyOf digitsOf lettersAll letterOf
+returns-17 c = rw (c .match .keys17)
+
+returns-18 : tie.Need-returns-18
+unfolding rowIn keyOf digitsOf lettersAll letterOf
+returns-18 c = rw (c .match .keys18)
+
+returns-19 : tie.Need-returns-19
+unfolding rowIn keyOf digitsOf lettersAll letterOf
+returns-19 c = rw (c .match .keys19)
+
+returns-20 : tie.Need-returns-20
 unfolding keyOf digitsOf lettersAll letterOf
-returns-16 c = row-none forms _ (c .match .rest)
+returns-20 c = row-none forms _ (c .match .rest)
 
 pub row-of-spec : {M : Type 1} → statement M
 row-of-spec =
@@ -88,4 +104,8 @@ row-of-spec =
     returns-13
     returns-14
     returns-15
-    returns-16)
+    returns-16
+    returns-17
+    returns-18
+    returns-19
+    returns-20)

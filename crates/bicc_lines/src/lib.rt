@@ -1,0 +1,119 @@
+// What the desk answers to BICC's requests: bicc-shape, bicc-read, bicc-write, bicc-compact.
+ghost use mathlib.Core.Path.{_≡_};
+ghost use Prim.Native.Nat.{ℕ, _≤_};
+ghost use Rattle.octets.specs.Answer.{refused};
+ghost use Rattle.octets.specs.Told.{writtenTold};
+ghost use Rattle.bicc.specs.Read.{callReadOf};
+ghost use Rattle.bicc.specs.Told.{callTold};
+ghost use Rattle.bicc.specs.Write.{callWriteOf, callCompactOf};
+ghost use Rattle.printing.specs.Sheet.{sheet, pour};
+ghost use Rattle.requests.specs.Words.{numberAt, octetsAt};
+ghost use Rattle.requests.specs.Along.{saidIn};
+ghost use Rattle.lines.specs.Lines.{octetsLine, againLine, compactLine, lent};
+ghost use Rattle.bicc_lines.specs.Bicc.{codeLine, biccLine};
+use bicc::Message;
+use bicc::Reading;
+use octets::Written;
+use requests::BICC_READ;
+use requests::BICC_SHAPE;
+use requests::BICC_WRITE;
+use requests::Field;
+use requests::Request;
+
+// What a message says that reads so.
+fn say_message(message: &[u8], x: Message, out: &mut [u8]) -> usize
+    ensures { λ r. ⌜ sheet (now (out .exit)) r ≡ pour (sheet (now (out .entry)) 0) (codeLine (now (message .entry)) (callTold (Reading.Read x))) ⌝ }
+{
+    let parts = x.parts;
+    let code = lines::put_count(b"code ", x.code, out, 0);
+    let kind = lines::put_shown(b" type ", &[x.kind], out, code);
+    read_lines::put_parts(message, parts, out, kind)
+}
+
+// Says what a message says, or the refusal with its octet.
+fn say_read(message: &[u8], out: &mut [u8]) -> usize
+    ensures { λ r. ⌜ sheet (now (out .exit)) r ≡ pour (sheet (now (out .entry)) 0) (codeLine (now (message .entry)) (callReadOf (now (message .entry)))) ⌝ }
+{
+    match bicc::read(message) {
+        Reading::Refused(n, at) => lines::say_fault(n, at as u32, out),
+        Reading::Read(x) => say_message(message, x, out),
+    }
+}
+
+// Writes a message by its fields, and says what was written.
+fn say_write(fields: [Field; 8], octets: &[u8], out: &mut [u8]) -> usize
+    ensures { λ r. ⌜ sheet (now (out .exit)) r ≡ pour (sheet (now (out .entry)) 0)
+        (octetsLine (callWriteOf (numberAt (saidIn (now (octets .entry)) fields) 0) (numberAt (saidIn (now (octets .entry)) fields) 1)
+        (octetsAt (saidIn (now (octets .entry)) fields) 2) (octetsAt (saidIn (now (octets .entry)) fields) 3)
+        (octetsAt (saidIn (now (octets .entry)) fields) 4) (octetsAt (saidIn (now (octets .entry)) fields) 5)
+        (lent (numberAt (saidIn (now (octets .entry)) fields) 6)))) ⌝ }
+{
+    let code = fields[0];
+    let kind = fields[1];
+    let fixed = fields[2];
+    let first = fields[3];
+    let second = fields[4];
+    let optional = fields[5];
+    let room = fields[6];
+    let mut space = lines::blank_space();
+    let buffer = lines::front(&mut space, room.value as usize);
+    let written = bicc::write(
+        code.value,
+        kind.value,
+        lines::stretch(octets, fixed.from, fixed.count as usize),
+        lines::stretch(octets, first.from, first.count as usize),
+        lines::stretch(octets, second.from, second.count as usize),
+        lines::stretch(octets, optional.from, optional.count as usize),
+        buffer,
+    );
+    lines::say_written(written, buffer, out)
+}
+
+// What was written again to the front of a buffer, or the reader's refusal with its octet.
+fn say_again(written: Written, buffer: &[u8], out: &mut [u8]) -> usize
+    requires { ⌜ ((n at : ℕ) → writtenTold written ≡ refused n at → at ≤ 65535) ⌝ }
+    ensures { λ r. ⌜ sheet (now (out .exit)) r ≡ pour (sheet (now (out .entry)) 0) (againLine (writtenTold written) (now (buffer .entry))) ⌝ }
+{
+    match written {
+        Written::Octets(n) => { lines::put_shown(b"octets ", lines::stretch(buffer, 0, n), out, 0) }
+        Written::Refused(n, at) => lines::say_fault(n, at as u32, out),
+    }
+}
+
+// Writes a message again, and says what was written.
+fn say_compact(fields: [Field; 8], octets: &[u8], out: &mut [u8]) -> usize
+    ensures { λ r. ⌜ sheet (now (out .exit)) r ≡ pour (sheet (now (out .entry)) 0)
+        (compactLine (callCompactOf (octetsAt (saidIn (now (octets .entry)) fields) 0) (lent (numberAt (saidIn (now (octets .entry)) fields) 1)))) ⌝ }
+{
+    let message = fields[0];
+    let room = fields[1];
+    let mut space = lines::blank_space();
+    let buffer = lines::front(&mut space, room.value as usize);
+    let written = bicc::compact(
+        lines::stretch(octets, message.from, message.count as usize),
+        buffer,
+    );
+    say_again(written, buffer, out)
+}
+
+// Puts the answer's line to one of BICC's requests at the front of `out`, and answers the next place. What `out` has no room for is left out.
+pub fn bicc_line(request: Request, octets: &[u8], out: &mut [u8]) -> usize
+    ensures { λ r. ⌜ sheet (now (out .exit)) r ≡ pour (sheet (now (out .entry)) 0) (biccLine (request .which) (saidIn (now (octets .entry)) (request .fields))) ⌝ }
+{
+    let fields = request.fields;
+    if request.which == BICC_SHAPE {
+        let kind = fields[0];
+        return read_lines::say_row(bicc::shape_of((kind.value % 256) as u8), out);
+    }
+    if request.which == BICC_READ {
+        let message = fields[0];
+        return say_read(
+            lines::stretch(octets, message.from, message.count as usize),
+            out,
+        );
+    }
+    if request.which == BICC_WRITE {
+        return say_write(fields, octets, out);
+    }
+    say_compact(fields, octets, out)
+}

@@ -1,0 +1,5 @@
+pub mod Table
+pub mod LowFirst
+pub mod Family
+pub mod Forms
+pub mod Faults
