@@ -17,9 +17,10 @@ typedef uint32_t calling(const uint8_t *, size_t, uint32_t *, size_t);
 typedef uint32_t finding(const uint8_t *, size_t, const uint8_t *, size_t, uint32_t, size_t *, size_t);
 typedef uint64_t numbering(const uint8_t *, size_t, uint8_t *, size_t);
 typedef uint32_t number_writing(uint32_t, uint32_t, uint32_t, const uint8_t *, size_t, uint8_t *, size_t);
-typedef uint32_t acting(uint8_t *, size_t, const uint8_t *, size_t, uint32_t, const uint8_t *, size_t, uint8_t *, size_t);
+typedef uint32_t acting(uint8_t *, size_t, const uint8_t *, size_t, const uint8_t *, size_t, uint32_t, const uint8_t *, size_t,
+                        uint8_t *, size_t);
 
-static uint8_t m[268], states[4096], owners[4096];
+static uint8_t m[268], states[4096], owners[4096], helpers[4096];
 static size_t length;
 static uint32_t last_name;
 static volatile uint64_t sink;
@@ -191,14 +192,14 @@ int main(int count, char **words)
         for (unsigned i = 0; i < calls; i++)
             sink += f(3, 1, 0, digits, sizeof digits, out, sizeof out);
     } else if (strcmp(function, "act") == 0) {
-        uint32_t size = llachurep_act(states, 4096, owners, 4096, 7, m, length, out, sizeof out);
-        if (size >> 16 || plain_act(states_of_plain, 4096, owners, 4096, 7, m, length, out_of_plain, sizeof out) != size ||
+        uint32_t size = llachurep_act(states, 4096, owners, 4096, helpers, 4096, 7, m, length, out, sizeof out);
+        if (size >> 16 || plain_act(states_of_plain, 4096, owners, 4096, helpers, 4096, 7, m, length, out_of_plain, sizeof out) != size ||
             memcmp(out, out_of_plain, sizeof out) != 0 || memcmp(states, states_of_plain, sizeof states) != 0)
             return 1;
         acting *volatile f = PICK(acting, act);
         for (unsigned i = 0; i < calls; i++) {
             states[parts[0]] = 0; /* so that an IAM is accepted each time */
-            sink += f(states, 4096, owners, 4096, 7, m, length, out, sizeof out);
+            sink += f(states, 4096, owners, 4096, helpers, 4096, 7, m, length, out, sizeof out);
         }
     } else {
         return 2;

@@ -57,9 +57,10 @@ enum {
     LLACHUREP_TABLE = 16,            /* state or ownership table not exactly 4096 octets */
     LLACHUREP_NO_ACT = 17,           /* a type the hub does not act on */
     LLACHUREP_GROUP = 18,            /* group passes circuit 4095 */
-    LLACHUREP_NOT_OWNER = 19,        /* a named circuit is not the sender's, or the sender is 0 */
+    LLACHUREP_NOT_OWNER = 19,        /* the sender neither owns nor helps a named circuit, or is 0 */
     LLACHUREP_STATE = 20,            /* a named circuit's state octet is not legal */
     LLACHUREP_NOT_FREE = 21,         /* IAM on a circuit that is busy or blocked */
+    LLACHUREP_ONLY_HELPED = 22,      /* the sender only helps a named circuit, and the message is none for helpers */
     LLACHUREP_VELOCITY = 26          /* a value that is no number, infinite or below zero; a bearing from 360 up */
 };
 
@@ -135,15 +136,18 @@ uint64_t llachurep_number_read(const uint8_t *contents, size_t length, uint8_t *
 uint32_t llachurep_number_write(uint32_t nature, uint32_t plan, uint32_t internal, const uint8_t *signals,
                                 size_t signals_length, uint8_t *out, size_t out_length);
 
-/* Applies a message of that sender to the table: one state octet and one ownership octet for each of 4096 circuits.
+/* Applies a message of that sender to the table: one state octet, one ownership octet and one helper's octet (0 for none)
+ * for each of 4096 circuits. On a circuit that it helps and does not own a sender may use BLO, UBL, CQM, and CGB and CGU for
+ * maintenance. (The totals of busy circuits will be one more table, after the helpers; that is this function's last change.)
  * Accepted: v is how many octets the answer has (0 for an IAM, 40 at the most), at the front of answer, and the states
  * of the circuits that the message names become what its rule says; all other states and the rest of answer stay. A
  * circuit query (CQM) changes no state and is answered by CQR, with an octet for each circuit: 0C idle, 04 busy, 02 more
  * where it is blocked for maintenance, 20 more where it is blocked for hardware, 01 more where it is blocked from our
  * side (8 in its state). RSC on such a circuit is answered by BLO and then RLC, seven octets; RSC and GRS keep the 8.
- * Refused: 16; as llachurep_read, but for its 13; 17, 14, 18, 19, 20, 21, 13. */
+ * Refused: 16; as llachurep_read, but for its 13; 17, 14, 18, 19, 22, 20, 21, 13. */
 uint32_t llachurep_act(uint8_t *states, size_t states_length, const uint8_t *owners, size_t owners_length,
-                       uint32_t sender, const uint8_t *message, size_t length, uint8_t *answer, size_t answer_length);
+                       const uint8_t *helpers, size_t helpers_length, uint32_t sender, const uint8_t *message, size_t length,
+                       uint8_t *answer, size_t answer_length);
 
 /* Blocks a circuit from our side (8 in its state), or ends that where set is 0, whoever owns it. Accepted: v is 3, and the
  * BLO or UBL to send stands at the front of answer; the rest of answer and all other states stay. Setting what is set is

@@ -10,7 +10,7 @@
 
 #include "llachurep.h"
 
-static uint8_t states[4096], owners[4096];
+static uint8_t states[4096], owners[4096], helpers[4096]; /* nobody helps */
 
 static void show(const char *what, const uint8_t *octets, size_t count)
 {
@@ -24,7 +24,8 @@ static void show(const char *what, const uint8_t *octets, size_t count)
 static void put(uint32_t sender, const uint8_t *message, size_t length)
 {
     uint8_t answer[268];
-    uint32_t got = llachurep_act(states, sizeof states, owners, sizeof owners, sender, message, length, answer, sizeof answer);
+    uint32_t got = llachurep_act(states, sizeof states, owners, sizeof owners, helpers, sizeof helpers, sender, message, length,
+                                 answer, sizeof answer);
     printf("sender %u: ", sender);
     if (LLACHUREP_REFUSAL(got) != 0)
         printf("refused with %u\n", LLACHUREP_REFUSAL(got));

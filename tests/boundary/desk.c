@@ -26,7 +26,7 @@ struct field {
     uint8_t octets[OCTETS];
 };
 
-static uint8_t states[4096], owners[4096], out[OCTETS];
+static uint8_t states[4096], owners[4096], helpers[4096], out[OCTETS];
 static char line[LINE + 2];
 static struct field fields[FIELDS];
 
@@ -264,11 +264,14 @@ static void answer(size_t length)
     } else if (is(length, "own", "ccs") && f[0].number <= f[1].number) {
         memset(owners + f[0].number, (int)f[2].number, f[1].number - f[0].number + 1);
         printf("ok\n");
+    } else if (is(length, "helper", "ccs") && f[0].number <= f[1].number) {
+        memset(helpers + f[0].number, (int)f[2].number, f[1].number - f[0].number + 1);
+        printf("ok\n");
     } else if (is(length, "set", "ccs") && f[0].number <= f[1].number) {
         memset(states + f[0].number, (int)f[2].number, f[1].number - f[0].number + 1);
         printf("ok\n");
     } else if (is(length, "act", "nor")) {
-        octets("answer", CALL(act)(states, 4096, owners, 4096, f[0].number, f[1].octets, f[1].count, out, f[2].number),
+        octets("answer", CALL(act)(states, 4096, owners, 4096, helpers, 4096, f[0].number, f[1].octets, f[1].count, out, f[2].number),
                1);
     } else if (is(length, "block", "nr")) {
         octets("answer", CALL(block)(states, 4096, f[0].number, 1, out, f[1].number), 0);

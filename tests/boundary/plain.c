@@ -512,11 +512,12 @@ static unsigned marks(const uint8_t *status, unsigned range)
     return count;
 }
 
-/* 16, the reader's, 17, 14, 18, 19, 20, 21, 13. */
-uint32_t plain_act(uint8_t *states, size_t states_length, const uint8_t *owners, size_t owners_length, uint32_t sender,
+/* 16, the reader's, 17, 14, 18, 19, 22, 20, 21, 13. */
+uint32_t plain_act(uint8_t *states, size_t states_length, const uint8_t *owners, size_t owners_length,
+                   const uint8_t *helpers, size_t helpers_length, uint32_t sender,
                    const uint8_t *message, size_t length, uint8_t *answer, size_t room)
 {
-    if (states_length != CIRCUITS || owners_length != CIRCUITS)
+    if (states_length != CIRCUITS || owners_length != CIRCUITS || helpers_length != CIRCUITS)
         return refusal(16);
     struct message x;
     uint32_t fault = parse(message, length, &x);
@@ -569,9 +570,16 @@ uint32_t plain_act(uint8_t *states, size_t states_length, const uint8_t *owners,
         return refusal(18);
     if (sender == 0)
         return refusal(19);
-    for (unsigned n = 0; n <= range; n++)
-        if (owners[m + n] != sender)
-            return refusal(19);
+    unsigned owned = 0; /* how many are owned before the first that is not */
+    while (owned <= range && owners[m + owned] == sender)
+        owned++;
+    if (owned <= range) {
+        for (unsigned n = owned; n <= range; n++)
+            if (owners[m + n] != sender && helpers[m + n] != sender)
+                return refusal(19);
+        if (!(x.type == BLO || x.type == UBL || x.type == CQM || ((x.type == CGB || x.type == CGU) && kind == 0)))
+            return refusal(22);
+    }
     uint8_t *row = states + m;
     for (unsigned n = 0; n <= range; n++)
         if (!legal(row[n]))

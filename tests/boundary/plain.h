@@ -15,7 +15,8 @@ uint32_t plain_find(const uint8_t *message, size_t length, const uint8_t *defaul
 uint64_t plain_number_read(const uint8_t *contents, size_t length, uint8_t *signals, size_t room);
 uint32_t plain_number_write(uint32_t nature, uint32_t plan, uint32_t internal, const uint8_t *signals, size_t count,
                             uint8_t *out, size_t room);
-uint32_t plain_act(uint8_t *states, size_t states_length, const uint8_t *owners, size_t owners_length, uint32_t sender,
+uint32_t plain_act(uint8_t *states, size_t states_length, const uint8_t *owners, size_t owners_length,
+                   const uint8_t *helpers, size_t helpers_length, uint32_t sender,
                    const uint8_t *message, size_t length, uint8_t *answer, size_t room);
 uint32_t plain_block(uint8_t *states, size_t states_length, uint32_t circuit, uint32_t set, uint8_t *answer, size_t room);
 uint32_t plain_bicc_read(const uint8_t *message, size_t length, uint32_t *parts, size_t count);

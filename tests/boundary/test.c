@@ -416,12 +416,12 @@ static uint32_t try_velocity_read(uint32_t bearing, uint32_t speed, size_t count
     return got;
 }
 
-/* The two tables, three times as above, with an octet to spare so that 4097 can be lent. */
+/* The three tables, three times as above, with an octet to spare so that 4097 can be lent. */
 struct tables {
-    uint8_t guard0[GUARD], states[4097], guard1[GUARD], owners[4097], guard2[GUARD];
+    uint8_t guard0[GUARD], states[4097], guard1[GUARD], owners[4097], guard2[GUARD], helpers[4097], guard3[GUARD];
 };
 static struct tables ours_tables, theirs_tables, before_tables;
-static size_t states_length = 4096, owners_length = 4096;
+static size_t states_length = 4096, owners_length = 4096, helpers_length = 4096;
 
 /* All three are as `before_tables`. */
 static void ready_tables(void)
@@ -447,10 +447,12 @@ static uint32_t try_act(uint32_t sender, const uint8_t *message, size_t length, 
     ready();
     int null = null_if_empty;
     uint32_t got = llachurep_act(states_length || !null ? ours_tables.states : NULL, states_length,
-                                 owners_length || !null ? ours_tables.owners : NULL, owners_length, sender,
+                                 owners_length || !null ? ours_tables.owners : NULL, owners_length,
+                                 helpers_length || !null ? ours_tables.helpers : NULL, helpers_length, sender,
                                  in(m, length), length, at(ours, a, room), room);
     uint32_t wanted = plain_act(states_length || !null ? theirs_tables.states : NULL, states_length,
-                                owners_length || !null ? theirs_tables.owners : NULL, owners_length, sender,
+                                owners_length || !null ? theirs_tables.owners : NULL, owners_length,
+                                helpers_length || !null ? theirs_tables.helpers : NULL, helpers_length, sender,
                                 at(theirs, m, length), length, at(theirs, a, room), room);
     int good = settle(ACT, got, wanted, got >> 16, a, got & 65535);
     if (good && memcmp(&ours_tables, &theirs_tables, sizeof ours_tables) != 0) {
@@ -874,11 +876,12 @@ static void number_cases(void)
     number_writes(3, 1, 0, "01 02 ff", 14, 0);
 }
 
-/* Circuits 0 to 4095: all the sender's, all rows `state`, but for the circuit `odd_one`, whose owner and state are given. */
+/* Circuits 0 to 4095: all the sender's, nobody helping, all rows `state`, but for the circuit `odd_one`, whose owner and state are given. */
 static void table(unsigned owner, unsigned state, unsigned odd_one, unsigned odd_owner, unsigned odd_state)
 {
     memset(before_tables.owners, (int)owner, 4096);
     memset(before_tables.states, (int)state, 4096);
+    memset(before_tables.helpers, 0, 4097);
     before_tables.owners[4096] = (uint8_t)owner;
     before_tables.states[4096] = (uint8_t)state;
     before_tables.owners[odd_one] = (uint8_t)odd_owner;
@@ -916,16 +919,16 @@ static void act_cases(void)
 {
     static const size_t lengths[] = {0, 1, 4095, 4096, 4097};
     table(7, 0, 4096, 7, 0);
-    for (int i = 0; i < 5; i++)
-        for (int j = 0; j < 5; j++) {
-            states_length = lengths[i];
-            owners_length = lengths[j];
-            if (i == 3 && j == 3)
-                continue;
-            act_refused("23 01 13", 7, 16);
-            act_refused("", 7, 16);
-        }
-    states_length = owners_length = 4096;
+    for (int i = 0; i < 125; i++) {
+        states_length = lengths[i % 5];
+        owners_length = lengths[i / 5 % 5];
+        helpers_length = lengths[i / 25];
+        if (i == 3 + 5 * 3 + 25 * 3)
+            continue;
+        act_refused("23 01 13", 7, 16);
+        act_refused("", 7, 16);
+    }
+    states_length = owners_length = helpers_length = 4096;
 
     acts("05 00 17 01 01 03", 6, "05 00 29 01 02 03 00", 8, 0);
     acts("05 00 17 01 01 03", 6, "05 00 29 01 02 03 00", 9, 6);
@@ -1039,6 +1042,50 @@ static void act_cases(void)
     }
     table(7, 0, 1, 9, 5);
     act_refused("01 00 01 00 60 01 0A 00 02 00 00", 7, 19);
+}
+
+/* Owner 9 and helper 5 of every circuit, all rows `state`, but for the circuit `odd_one`, whose owner, helper and state are given. */
+static void helped(unsigned state, unsigned odd_one, unsigned odd_owner, unsigned odd_helper, unsigned odd_state)
+{
+    table(9, state, odd_one, odd_owner, odd_state);
+    memset(before_tables.helpers, 5, 4097);
+    before_tables.helpers[odd_one] = (uint8_t)odd_helper;
+    ready_tables();
+}
+
+static void helper_cases(void)
+{
+    static const char *const listed[] = {"05 00 13", "05 00 14", "05 00 2A 01 01 03", "05 00 18 00 01 02 03 03", "05 00 19 04 01 02 03 00"};
+    static const char *const others[] = {"05 00 01 00 60 01 0A 00 02 00 00", "05 00 0C 02 00 02 80 90", "05 00 12", "05 00 17 01 01 03",
+                                         "05 00 18 01 01 02 03 03", "05 00 19 fd 01 02 03 00"};
+    for (int i = 0; i < 11; i++) {
+        const char *text = i < 5 ? listed[i] : others[i - 5];
+        uint32_t size = i < 2 ? 3 : i == 2 ? 12 : i < 5 ? 8 : 22;
+        size_t length = hex(text, octets);
+        uint32_t wanted = size == 22 ? REFUSED(22) : size;
+        helped(0, 4096, 9, 5, 0);
+        want("act, helped", text, try_act(5, octets, length, 268), wanted);
+        act_refused(text, 6, 19);
+        act_refused(text, 0, 19);
+        act_refused(text, 261, 19);
+        helped(0, 4096, 0, 5, 0); /* nobody's circuit can be helped too */
+        want("act, helped", text, try_act(5, octets, length, 268), wanted);
+        for (unsigned n = 5; n < 9 && reach(octets) + 5 >= n; n++) {
+            helped(0, n, 5, 0, 0); /* owned by the helper: a mixed group */
+            want("act, mixed", text, try_act(5, octets, length, 268), reach(octets) == 0 && size == 22 ? (i == 5 ? 0 : 4) : wanted);
+            helped(0, n, 9, 6, 0); /* one that it does not help: 19 before 22 */
+            act_refused(text, 5, 19);
+            helped(0, n, 9, 0, 5);
+            act_refused(text, 5, 19);
+            helped(0, n, 9, 5, 5); /* 22 before 20 */
+            act_refused(text, 5, size == 22 ? 22 : 20);
+        }
+        helped(0, 4096, 9, 5, 0);
+        want("act, owner", text, try_act(9, octets, length, 268) >> 16, 0);
+    }
+    table(0, 0, 4096, 0, 0); /* owner 0 and helper 0: nobody's */
+    act_refused("23 01 13", 0, 19);
+    act_refused("23 01 13", 256, 19);
 }
 
 static void block_cases(void)
@@ -1253,12 +1300,22 @@ static void change_tables(int all)
             for (unsigned n = one_in(3) ? between(1, 30) : between(100, 600); n > 0 && c < 4097; n--)
                 before_tables.owners[c++] = (uint8_t)owner;
         }
+        for (unsigned c = 0; c < 4097;) {
+            unsigned helper = one_in(3) ? 0 : owners_of_zones[below(8)];
+            for (unsigned n = one_in(3) ? between(1, 30) : between(100, 600); n > 0 && c < 4097; n--)
+                before_tables.helpers[c++] = (uint8_t)helper;
+        }
         for (unsigned c = 0; c < 4097; c++)
             before_tables.states[c] = legal_states[one_in(2) ? below(6) : below(12)];
     }
     unsigned from = below(4096), count = below(64);
     for (unsigned c = from; c < from + count && c < 4096; c++)
         before_tables.states[c] = legal_states[one_in(2) ? 0 : below(12)];
+    from = below(4096);
+    count = below(64);
+    unsigned helper = one_in(2) ? 0 : owners_of_zones[below(8)];
+    for (unsigned c = from; c < from + count && c < 4096; c++)
+        before_tables.helpers[c] = (uint8_t)helper;
     from = below(4096);
     count = below(8);
     unsigned owner = owners_of_zones[below(8)];
@@ -1347,15 +1404,17 @@ static void generated(void)
                  one_in(8) ? below(4) : 2);
 
         uint32_t owner = length < 3 ? 1 : before_tables.owners[m[0] + 256u * (m[1] & 15u)];
-        uint32_t sender = one_in(12) ? strange[below(6)] : one_in(30) ? owner + 256 : owner ? owner : 7;
+        uint32_t helper = length < 3 ? 1 : before_tables.helpers[m[0] + 256u * (m[1] & 15u)];
+        uint32_t sender = one_in(12) ? strange[below(6)] : one_in(30) ? owner + 256 : one_in(4) ? helper : owner ? owner : 7;
         size_t needed = length > 2 && m[2] >= 0x17 && m[2] <= 0x19 ? 7 + w.first_length :
                         length > 2 && m[2] == 0x2A ? 9u + w.first[0] : 4;
         if (one_in(200)) {
             states_length = between(4095, 4097);
             owners_length = between(4095, 4097);
+            helpers_length = between(4095, 4097);
         }
         try_act(sender, m, length, one_in(3) ? near(needed) : 268);
-        states_length = owners_length = 4096;
+        states_length = owners_length = helpers_length = 4096;
 
         if (one_in(5)) {
             if (one_in(200))
@@ -1568,7 +1627,7 @@ static void reached(void)
         [FIND] = {1, 1, 1, 1, 1, 1, 1, 1, 1, 0, 0, 1, 0, 1, 0, 1},
         [NUMBER_READ] = {1, 0, 0, 0, 0, 0, 0, 0, 0, 0, 0, 0, 0, 1, 1},
         [NUMBER_WRITE] = {1, 0, 0, 0, 0, 0, 0, 0, 0, 0, 0, 0, 0, 1, 1},
-        [ACT] = {1, 1, 1, 1, 1, 1, 1, 1, 1, 0, 0, 0, 0, 1, 1, 0, 1, 1, 1, 1, 1, 1},
+        [ACT] = {1, 1, 1, 1, 1, 1, 1, 1, 1, 0, 0, 0, 0, 1, 1, 0, 1, 1, 1, 1, 1, 1, 1},
         [BLOCK] = {[0] = 1, [9] = 1, [13] = 1, [16] = 1, [20] = 1},
         [VELOCITY_CODE] = {[0] = 1, [13] = 1, [26] = 1},
         [VELOCITY_VERTICAL] = {[0] = 1, [13] = 1, [26] = 1},
@@ -1618,6 +1677,7 @@ int main(void)
     find_cases();
     number_cases();
     act_cases();
+    helper_cases();
     block_cases();
     bicc_cases();
     velocity_cases();

@@ -19,8 +19,9 @@ REACHED = {
     "number": [14, 13],
     "dial": [14, 13],
     "own": [],
+    "helper": [],
     "set": [],
-    "act": READER + [17, 14, 18, 19, 20, 21, 13],
+    "act": READER + [17, 14, 18, 19, 22, 20, 21, 13],
     "rows": [],
     "block": [9, 20, 13],
     "unblock": [9, 20, 13],
@@ -45,7 +46,7 @@ def samples():
     for request, wanted in SAMPLES:
         got = desk.answer(request.encode()).decode()
         check(got == wanted, "%s\n  answers %s\n  wanted  %s" % (request, got, wanted))
-    check(not any(desk.states) and not any(desk.owners), "the samples leave the tables as at the start")
+    check(not any(desk.states) and not any(desk.owners) and not any(desk.helpers), "the samples leave the tables as at the start")
 
 
 def lines():

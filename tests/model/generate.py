@@ -15,7 +15,7 @@ import velocities
 from model import SHAPES, IAM, REL, RSC, BLO, UBL, GRS, CGB, CGU, CQM
 
 STORED_COUNT = 5000
-STORED_SEED = 763
+STORED_SEED = 769
 
 TYPES = sorted(SHAPES)
 WITH_VARIABLE = [kind for kind in TYPES if SHAPES[kind].variable]
@@ -752,6 +752,34 @@ class Generator:
             made.append(self.rows(m, m))
         return made
 
+    def helped(self):
+        """A partner that helps on some of the owner's circuits: the listed messages and the others, from both and from a stranger."""
+        kind = self.pick(ACTED)
+        m = self.circuit()
+        r = 0
+        if kind in (GRS, CGB, CGU, CQM):
+            r = self.pick([1, 2, 7, 8, self.between(1, 31)])
+        last = min(4095, m + r)
+        owner = self.sender()
+        partner = self.pick([owner % 255 + 1, owner % 255 + 1, owner, 0])
+        made = [self.line("own", m, last, owner), self.line("set", m, last, self.pick([0, 0, 1, 2, 8])),
+                self.line("helper", m, last, partner)]
+        for table in self.shuffled(["own", "helper", "set"])[:self.pick([0, 1, 1, 2])]:
+            spot = self.between(m, last)
+            if table == "own":
+                made.append(self.line("own", spot, spot, self.pick([0, partner, owner, owner ^ 1])))
+            elif table == "helper":
+                made.append(self.line("helper", spot, spot, self.pick([0, 0, owner, owner ^ 1])))
+            else:
+                made.append(self.line("set", spot, spot, self.pick(STATES + ILLEGAL)))
+        for _ in range(self.between(1, 3)):
+            asker = self.pick([partner, partner, partner, owner, 0, partner + 256, owner ^ 1])
+            made.append(self.line("act", asker, self.asking(kind, m, r), self.room(self.need(kind, r))))
+            made.append(self.rows(m - 1, m + r + 1))
+            if self.chance(0.5):
+                kind = self.pick([BLO, UBL] if r == 0 else [CGB, CGU, CQM, GRS])
+        return made
+
     def owned(self):
         """A circuit that somebody owns, if there is one, and its owner."""
         for _ in range(20):
@@ -964,7 +992,7 @@ class Generator:
         made += [b"read " + b"00" * 1024, b"read " + b"00" * 1025]
         for line in (b"shape 13", b"read 230113", b"write 1 13 - - - - 3", b"compact 230113 3", b"find 20 01000900 200141",
                      b"bicc-shape 12", b"bicc-read 2301000012", b"bicc-write 1 12 - - - - 5", b"bicc-compact 2301000012 5",
-                     b"number 0310 0", b"dial 3 1 0 01 3", b"own 9 9 3", b"set 9 9 2", b"act 3 090013 3", b"rows 9 9"):
+                     b"number 0310 0", b"dial 3 1 0 01 3", b"own 9 9 3", b"helper 9 9 4", b"set 9 9 2", b"act 3 090013 3", b"rows 9 9"):
             made.append(line)
             words = line.split(b" ")
             for at in range(len(words)):
@@ -997,8 +1025,8 @@ class Generator:
         made.append(b"write 1 0c - %s - 2010%s 1024" % (b"5a" * 254, b"00" * 16))
         made.append(b"write 1 0c - %s - 2010%s 1024" % (b"5a" * 253, b"00" * 16))
         # Spans: FIRST at most LAST.
-        made += [b"own 9 8 3", b"set 9 8 3", b"rows 9 8", b"own 0 4096 3", b"set 0 4096 3", b"rows 0 4096",
-                 b"own 9 9 256", b"set 9 9 256"]
+        made += [b"own 9 8 3", b"helper 9 8 3", b"set 9 8 3", b"rows 9 8", b"own 0 4096 3", b"helper 0 4096 3", b"set 0 4096 3",
+                 b"rows 0 4096", b"own 9 9 256", b"helper 9 9 256", b"set 9 9 256", b"helpers 9 9 3", b"helpe 9 9 3"]
 
         # Numbers: each value just in and just out of its range, or cut to an octet.
         for value in (0, 127, 128, 256, 65536, TOP):
@@ -1136,6 +1164,18 @@ class Generator:
                 act = b"act 9 dc0518000103" + b"08" + status + b" 99"
                 made.append(front + [b"own %d %d 8" % (spot, spot), act, b"rows 1499 1509"])
                 made.append(front + [b"set %d %d 5" % (spot, spot), act, b"rows 1499 1509"])
+        # A partner on circuits that it only helps: each type, each kind of a group, over one circuit, a whole group and a part of one;
+        # 19 over the whole group before 22, 22 over the whole group before 20, 20 before 21 and 13; 0 helps nothing.
+        for kind in ACTED:
+            for fixed in ((0, 1) if kind in (CGB, CGU) else (0,)):
+                row = SHAPES[kind]
+                contents = b"\3\7" if kind in (CGB, CGU) else b"\3" if kind in (GRS, CQM) else b"\1"
+                message = self.lay(kind, 1900, bytes([fixed] + [0] * 9)[:row.fixed], [contents] * row.variable, None).hex().encode()
+                acts = [b"act %d %s %d" % (sender, message, room) for sender, room in ((5, 0), (5, 99), (9, 99))]
+                for some in ([], [b"own 1900 1900 5"], [b"helper 1902 1902 0"], [b"set 1903 1903 5"]):
+                    made.append([b"own 1900 1903 9", b"set 1900 1903 0", b"helper 1900 1903 5"] + some + acts + [b"rows 1900 1903"])
+        made.append([b"own 1950 1951 0", b"helper 1950 1951 0", b"act 0 9e0713 3", b"act 256 9e0713 3", b"helper 1950 1950 5",
+                     b"act 5 9e0713 3", b"act 261 9e0713 3", b"act 5 9e0714 3", b"act 5 9f0713 3", b"rows 1950 1951"])
         # 19 is decided over the whole group before 20; 20 before 21; all before 13.
         made += [
             [b"own 1600 1608 9", b"set 1600 1608 0", b"set 1600 1600 7", b"own 1608 1608 0", b"act 9 400617010108 0",
@@ -1169,7 +1209,7 @@ class Generator:
             return self.corner()
         return self.weighted([
             (3, self.shape), (22, self.read), (20, self.write), (15, self.compact), (18, self.find),
-            (9, self.number), (9, self.dial), (10, self.group), (7, self.single), (4, self.going), (1, self.spans),
+            (9, self.number), (9, self.dial), (10, self.group), (7, self.single), (7, self.helped), (4, self.going), (1, self.spans),
             (18, self.strange), (6, self.ours), (1, self.look), (10, self.velocity), (4, self.velocity_back), (2, self.bicc_shape), (14, self.bicc_read), (12, self.bicc_write),
             (10, self.bicc_compact), (11, lambda: [self.bad()])])()
 

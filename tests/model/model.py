@@ -437,9 +437,16 @@ def ask(message):
     return 17
 
 
-def act(states, owners, sender, message, room):
-    """16, the reader's, 17, 14, 18, 19, 20, 21, 13. Accepted: the answer and the new states of m to m+r."""
-    if len(states) != CIRCUITS or len(owners) != CIRCUITS:
+def for_helpers(message):
+    """Whether a sender may use the message on a circuit that it only helps: BLO, UBL, CQM, and CGB and CGU for maintenance."""
+    if message.kind in (CGB, CGU):
+        return message.fixed[0] % 4 == 0
+    return message.kind in (BLO, UBL, CQM)
+
+
+def act(states, owners, helpers, sender, message, room):
+    """16, the reader's, 17, 14, 18, 19, 22, 20, 21, 13. Accepted: the answer and the new states of m to m+r."""
+    if len(states) != CIRCUITS or len(owners) != CIRCUITS or len(helpers) != CIRCUITS:
         return 16
     got = read(message)
     if refused(got):
@@ -451,8 +458,11 @@ def act(states, owners, sender, message, room):
     if m + asked.reach > 4095:
         return 18
     named = range(m, m + asked.reach + 1)           # marked or not
-    if sender == 0 or any(owners[c] != sender for c in named):
+    # 0 owns nothing and helps nothing.
+    if sender == 0 or any(owners[c] != sender and helpers[c] != sender for c in named):
         return 19
+    if any(owners[c] != sender for c in named) and not for_helpers(got):
+        return 22
     if any(states[c] not in LEGAL for c in named):
         return 20
     if got.kind == IAM and states[m] != 0:
@@ -551,6 +561,7 @@ FIELDS = {
     b"number": (octets, ROOM),
     b"dial": (ANY, ANY, ANY, octets, ROOM),
     b"own": (CIRCUIT, CIRCUIT, SMALL),
+    b"helper": (CIRCUIT, CIRCUIT, SMALL),
     b"set": (CIRCUIT, CIRCUIT, SMALL),
     b"act": (ANY, octets, ROOM),
     b"rows": (CIRCUIT, CIRCUIT),
@@ -582,7 +593,7 @@ def request(line):
     if fields is None or len(words) != 1 + len(fields):
         raise BadLine
     values = [field(word) for field, word in zip(fields, words[1:])]
-    if words[0] in (b"own", b"set", b"rows") and values[0] > values[1]:
+    if words[0] in (b"own", b"helper", b"set", b"rows") and values[0] > values[1]:
         raise BadLine
     return words[0].decode().replace("-", "_"), values
 
@@ -605,11 +616,12 @@ def written(answer):
 # ---------------------------------------------------------------- the desk
 
 class Desk:
-    """One table of states and one of owners, all 0 at the start."""
+    """One table of states, one of owners and one of helpers, all 0 at the start."""
 
     def __init__(self):
         self.states = bytearray(CIRCUITS)
         self.owners = bytearray(CIRCUITS)
+        self.helpers = bytearray(CIRCUITS)
 
     def answer(self, line):
         """The answer line, without LF. The line comes without its LF and without a CR right before that LF."""
@@ -669,12 +681,16 @@ class Desk:
         self.owners[first:last + 1] = bytes([sender]) * (last + 1 - first)
         return "ok"
 
+    def on_helper(self, first, last, sender):
+        self.helpers[first:last + 1] = bytes([sender]) * (last + 1 - first)
+        return "ok"
+
     def on_set(self, first, last, state):
         self.states[first:last + 1] = bytes([state]) * (last + 1 - first)
         return "ok"
 
     def on_act(self, sender, message, room):
-        done = act(self.states, self.owners, sender, message, room)
+        done = act(self.states, self.owners, self.helpers, sender, message, room)
         if refused(done):
             return done
         answer, rows = done
@@ -776,14 +792,15 @@ def replay(data):
     if refused(got):
         return b"refused %d\n" % got
     spans, messages = got
-    states, owners = bytearray(CIRCUITS), bytearray(CIRCUITS)
+    # A book names no helpers.
+    states, owners, helpers = bytearray(CIRCUITS), bytearray(CIRCUITS), bytes(CIRCUITS)
     for first, last, sender in spans:
         for c in range(first, last + 1):
             owners[c] = sender
     sent, took = {}, {}
     for sender, message in messages:
         sent[sender] = sent.get(sender, 0) + 1
-        outcome = act(states, owners, sender, message, LONGEST)
+        outcome = act(states, owners, helpers, sender, message, LONGEST)
         if refused(outcome):
             continue
         took[sender] = took.get(sender, 0) + 1

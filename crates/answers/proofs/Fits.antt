@@ -48,7 +48,7 @@ use Rattle.printing.specs.Sheet.{sheet, pour}
 use Rattle.printing.specs.Shown.{decimalIn, decimalOf, hexPairs, hexOf}
 use Rattle.printing.proofs.Pours.{pour-one, pour-append}
 use Rattle.requests.specs.Kinds.{FieldSays}
-use Rattle.requests.specs.Rows.{SHAPE, READ, WRITE, COMPACT, NUMBER, OWN, SET, ACT, BLOCK, UNBLOCK, VELOCITY, VELOCITY-LONG, VELOCITY-BACK, VELOCITY-BACK-LONG, BICC-SHAPE, BICC-READ, BICC-WRITE, BICC-COMPACT}
+use Rattle.requests.specs.Rows.{SHAPE, READ, WRITE, COMPACT, NUMBER, OWN, HELPER, SET, ACT, BLOCK, UNBLOCK, VELOCITY, VELOCITY-LONG, VELOCITY-BACK, VELOCITY-BACK-LONG, BICC-SHAPE, BICC-READ, BICC-WRITE, BICC-COMPACT}
 use Rattle.requests.specs.Words.{Asked, asks, nothing, askedOf, numberAt, octetAt, octetsAt}
 use Rattle.requests.proofs.Sound.{Short, short}
 use Rattle.lines.specs.Lines.{counted, shown, refusal, faultLine, writtenLine, octetsLine, blank, lent, againLine, compactLine}
@@ -327,12 +327,16 @@ module _ (T : Tables) (k : length (T .states) ≤ 4096) where
   -- those of the tables
   table-fits : (which : ℕ) (gs : List FieldSays) → length (tableTurn T which gs .line) ≤ 40000
   unfolding tableTurn
-  table-fits which gs = go (eqb which OWN) (eqb which SET)
+  table-fits which gs = go (eqb which OWN) (eqb which HELPER) (eqb which SET)
     where
-      go : (a b : Bool) → length ((if a then turn (tables (T .states) (spread (T .owners) (numberAt gs 0) (numberAt gs 1) (octetAt gs 2))) (said "ok") else if b then turn (tables (spread (T .states) (numberAt gs 0) (numberAt gs 1) (octetAt gs 2)) (T .owners)) (said "ok") else turn T (rowsLine (T .states) (numberAt gs 0) (numberAt gs 1))) .line) ≤ 40000
-      go true b = omega arith
-      go false true = omega arith
-      go false false = omega (arith, rows-fit 4096 (T .states) k (numberAt gs 0) (numberAt gs 1))
+      go : (a h b : Bool) → length ((if a then turn (tables (T .states) (spread (T .owners) (numberAt gs 0) (numberAt gs 1) (octetAt gs 2)) (T .helpers)) (said "ok")
+          else if h then turn (tables (T .states) (T .owners) (spread (T .helpers) (numberAt gs 0) (numberAt gs 1) (octetAt gs 2))) (said "ok")
+          else if b then turn (tables (spread (T .states) (numberAt gs 0) (numberAt gs 1) (octetAt gs 2)) (T .owners) (T .helpers)) (said "ok")
+          else turn T (rowsLine (T .states) (numberAt gs 0) (numberAt gs 1))) .line) ≤ 40000
+      go true h b = omega arith
+      go false true b = omega arith
+      go false false true = omega arith
+      go false false false = omega (arith, rows-fit 4096 (T .states) k (numberAt gs 0) (numberAt gs 1))
 
   -- the hub's
   act-fits : (gs : List FieldSays) → length (actTurn T gs .line) ≤ 40000
@@ -374,7 +378,7 @@ module _ (T : Tables) (k : length (T .states) ≤ 4096) where
 -- of every line
 pub answer-fits : (line : List ℕ) (T : Tables) → length (turnOf line T .line) ≤ 40000
 unfolding turnOf
-answer-fits line T = go (eqb (length (T .states)) 4096) (eqb (length (T .owners)) 4096) refl
+answer-fits line T = go (eqb (length (T .states)) 4096) (if eqb (length (T .owners)) 4096 then eqb (length (T .helpers)) 4096 else false) refl
   where
     go : (s o : Bool) → eqb (length (T .states)) 4096 ≡ s → length ((if (if s then o else false) then turnFor T (askedOf line) else turn T (refusal 16)) .line) ≤ 40000
     go true true e = asked-fits T (omega (arith, eqb-true (length (T .states)) 4096 e)) (askedOf line) (short line)

@@ -15,7 +15,7 @@ use Rattle.hub.proofs.Called.{act-keeps}
 use Rattle.hub.proofs.Desk.{desk-keeps}
 use Rattle.words.specs.Said.{said}
 use Rattle.requests.specs.Kinds.{FieldSays}
-use Rattle.requests.specs.Rows.{NUMBER, OWN, SET, ACT, BLOCK, UNBLOCK, VELOCITY-BACK-LONG, BICC-COMPACT}
+use Rattle.requests.specs.Rows.{NUMBER, OWN, HELPER, SET, ACT, BLOCK, UNBLOCK, VELOCITY-BACK-LONG, BICC-COMPACT}
 use Rattle.requests.specs.Words.{Asked, asks, nothing, askedOf, numberAt, octetAt, octetsAt}
 use Rattle.lines.specs.Lines.{refusal, lent}
 use Rattle.codec_lines.specs.Codec.{codecLine}
@@ -37,31 +37,45 @@ NotBlocked T which gs = (n at : ℕ) × (blockDone (T .states) which gs .answer 
 
 module _ (T : Tables) (which : ℕ) (gs : List FieldSays) where
   -- of the requests of the tables, the choice of a row
-  abbrev chosenTable : Bool → Bool → Turn
-  chosenTable o s =
-      if o then turn (tables (T .states) (spread (T .owners) (numberAt gs 0) (numberAt gs 1) (octetAt gs 2))) (said "ok")
-      else if s then turn (tables (spread (T .states) (numberAt gs 0) (numberAt gs 1) (octetAt gs 2)) (T .owners)) (said "ok")
+  abbrev chosenTable : Bool → Bool → Bool → Turn
+  chosenTable o h s =
+      if o then turn (tables (T .states) (spread (T .owners) (numberAt gs 0) (numberAt gs 1) (octetAt gs 2)) (T .helpers)) (said "ok")
+      else if h then turn (tables (T .states) (T .owners) (spread (T .helpers) (numberAt gs 0) (numberAt gs 1) (octetAt gs 2))) (said "ok")
+      else if s then turn (tables (spread (T .states) (numberAt gs 0) (numberAt gs 1) (octetAt gs 2)) (T .owners) (T .helpers)) (said "ok")
       else turn T (rowsLine (T .states) (numberAt gs 0) (numberAt gs 1))
 
   -- only `own` changes who owns a circuit
   table-owners : (which ≡ OWN → ⊥) → tableTurn T which gs .tables .owners ≡ T .owners
   unfolding tableTurn
-  table-owners h = go (eqb which OWN) (eqb which SET) refl
+  table-owners n = go (eqb which OWN) (eqb which HELPER) (eqb which SET) refl
     where
-      go : (o s : Bool) → eqb which OWN ≡ o → chosenTable o s .tables .owners ≡ T .owners
-      go true s e = absurd (h (eqb-true which OWN e))
-      go false true e = refl
-      go false false e = refl
+      go : (o h s : Bool) → eqb which OWN ≡ o → chosenTable o h s .tables .owners ≡ T .owners
+      go true h s e = absurd (n (eqb-true which OWN e))
+      go false true s e = refl
+      go false false true e = refl
+      go false false false e = refl
+
+  -- only `helper` changes who helps a circuit
+  table-helpers : (which ≡ HELPER → ⊥) → tableTurn T which gs .tables .helpers ≡ T .helpers
+  unfolding tableTurn
+  table-helpers n = go (eqb which OWN) (eqb which HELPER) (eqb which SET) refl
+    where
+      go : (o h s : Bool) → eqb which HELPER ≡ h → chosenTable o h s .tables .helpers ≡ T .helpers
+      go true h s e = refl
+      go false true s e = absurd (n (eqb-true which HELPER e))
+      go false false true e = refl
+      go false false false e = refl
 
   -- only `set` changes a row
   table-states : (which ≡ SET → ⊥) → tableTurn T which gs .tables .states ≡ T .states
   unfolding tableTurn
-  table-states h = go (eqb which OWN) (eqb which SET) refl
+  table-states n = go (eqb which OWN) (eqb which HELPER) (eqb which SET) refl
     where
-      go : (o s : Bool) → eqb which SET ≡ s → chosenTable o s .tables .states ≡ T .states
-      go true s e = refl
-      go false true e = absurd (h (eqb-true which SET e))
-      go false false e = refl
+      go : (o h s : Bool) → eqb which SET ≡ s → chosenTable o h s .tables .states ≡ T .states
+      go true h s e = refl
+      go false true s e = refl
+      go false false true e = absurd (n (eqb-true which SET e))
+      go false false false e = refl
 
 module _ (T : Tables) (which : ℕ) (gs : List FieldSays) where
   -- the choice of a family
@@ -90,8 +104,22 @@ module _ (T : Tables) (which : ℕ) (gs : List FieldSays) where
       go false false false false false false true = refl
       go false false false false false false false = refl
 
+  helpers-by : (which ≡ HELPER → ⊥) → turnBy T which gs .tables .helpers ≡ T .helpers
+  unfolding turnBy actTurn
+  helpers-by h = go (ltb which NUMBER) (ltb which OWN) (ltb which ACT) (eqb which ACT) (leb which UNBLOCK) (leb which VELOCITY-BACK-LONG) (leb which BICC-COMPACT)
+    where
+      go : (a b c d u v w : Bool) → chosenFamily a b c d u v w .tables .helpers ≡ T .helpers
+      go true b c d u v w = refl
+      go false true c d u v w = refl
+      go false false true d u v w = table-helpers T which gs h
+      go false false false true u v w = refl
+      go false false false false true v w = refl
+      go false false false false false true w = refl
+      go false false false false false false true = refl
+      go false false false false false false false = refl
+
   -- a `block` or an `unblock` that is refused
-  block-states : (which ≡ BLOCK → NotBlocked T which gs) → (which ≡ UNBLOCK → NotBlocked T which gs) → 10 ≤ which → (which ≡ ACT → ⊥) → which ≤ 12 → blockTurn T which gs .tables .states ≡ T .states
+  block-states : (which ≡ BLOCK → NotBlocked T which gs) → (which ≡ UNBLOCK → NotBlocked T which gs) → 11 ≤ which → (which ≡ ACT → ⊥) → which ≤ 13 → blockTurn T which gs .tables .states ≡ T .states
   unfolding blockDone
   block-states p q l n h =
       let f : NotBlocked T which gs = ⊎-elim (λ t. p (eqb-true which BLOCK t)) (λ t. let z = eqb-false which BLOCK t in q (omega (arith, z, n, l, h))) (decided (eqb which BLOCK)) in
@@ -128,6 +156,16 @@ module _ (line : List ℕ) (T : Tables) where
     where
       go : (t : Bool) (a : Asked) → askedOf line ≡ a → (if t then turnFor T a else turn T (refusal 16)) .tables .owners ≡ T .owners
       go true (asks which gs) e = owners-by T which gs (λ w. h gs (e ∙ ap (λ (n : ℕ). asks n gs) w))
+      go true nothing e = refl
+      go false a e = refl
+
+  -- who helps a circuit changes by `helper` alone
+  pub helpers-kept : ((gs : List FieldSays) → askedOf line ≡ asks HELPER gs → ⊥) → turnOf line T .tables .helpers ≡ T .helpers
+  unfolding turnOf
+  helpers-kept h = go (sized T) (askedOf line) refl
+    where
+      go : (t : Bool) (a : Asked) → askedOf line ≡ a → (if t then turnFor T a else turn T (refusal 16)) .tables .helpers ≡ T .helpers
+      go true (asks which gs) e = helpers-by T which gs (λ w. h gs (e ∙ ap (λ (n : ℕ). asks n gs) w))
       go true nothing e = refl
       go false a e = refl
 

@@ -35,46 +35,46 @@ module _ (T : Tables) (which : ℕ) (gs : List FieldSays) where
   unfolding turnBy
   turn-numbers l h = rw (le-ltb _ _ l, lt-ltb _ _ h) refl
 
-  pub turn-tables : 7 ≤ which → which < 10 → tableTurn T which gs ≡ turnBy T which gs
+  pub turn-tables : 7 ≤ which → which < 11 → tableTurn T which gs ≡ turnBy T which gs
   unfolding turnBy
   turn-tables l h = let m : 5 ≤ which = omega arith in rw (le-ltb _ _ m, le-ltb _ _ l, lt-ltb _ _ h) refl
 
-  pub turn-hub : which ≡ 10 → actTurn T gs ≡ turnBy T which gs
+  pub turn-hub : which ≡ 11 → actTurn T gs ≡ turnBy T which gs
   unfolding turnBy
   turn-hub e = rw e refl
 
-  pub turn-blocks : 10 ≤ which → (which ≡ 10 → ⊥) → which ≤ 12 → blockTurn T which gs ≡ turnBy T which gs
+  pub turn-blocks : 11 ≤ which → (which ≡ 11 → ⊥) → which ≤ 13 → blockTurn T which gs ≡ turnBy T which gs
   unfolding turnBy
   turn-blocks l n h =
       let m : 5 ≤ which = omega arith in
       let k : 7 ≤ which = omega arith in
       rw (le-ltb _ _ m, le-ltb _ _ k, le-ltb _ _ l, ne-eqb _ _ n, le-leb _ _ h) refl
 
-  pub turn-velocities : (which ≡ 10 → ⊥) → 12 < which → which ≤ 16 → turn T (velocitiesLine which gs) ≡ turnBy T which gs
+  pub turn-velocities : (which ≡ 11 → ⊥) → 13 < which → which ≤ 17 → turn T (velocitiesLine which gs) ≡ turnBy T which gs
   unfolding turnBy
   turn-velocities n b h =
       let m : 5 ≤ which = omega arith in
       let k : 7 ≤ which = omega arith in
-      let l : 10 ≤ which = omega arith in
+      let l : 11 ≤ which = omega arith in
       rw (le-ltb _ _ m, le-ltb _ _ k, le-ltb _ _ l, ne-eqb _ _ n, lt-leb _ _ b, le-leb _ _ h) refl
 
-  pub turn-bicc : (which ≡ 10 → ⊥) → 16 < which → which ≤ 20 → turn T (biccLine which gs) ≡ turnBy T which gs
+  pub turn-bicc : (which ≡ 11 → ⊥) → 17 < which → which ≤ 21 → turn T (biccLine which gs) ≡ turnBy T which gs
   unfolding turnBy
   turn-bicc n v h =
       let m : 5 ≤ which = omega arith in
       let k : 7 ≤ which = omega arith in
-      let l : 10 ≤ which = omega arith in
-      let b : 12 < which = omega arith in
+      let l : 11 ≤ which = omega arith in
+      let b : 13 < which = omega arith in
       rw (le-ltb _ _ m, le-ltb _ _ k, le-ltb _ _ l, ne-eqb _ _ n, lt-leb _ _ b, lt-leb _ _ v, le-leb _ _ h) refl
 
-  pub turn-none : (which ≡ 10 → ⊥) → 20 < which → badTurn T ≡ turnBy T which gs
+  pub turn-none : (which ≡ 11 → ⊥) → 21 < which → badTurn T ≡ turnBy T which gs
   unfolding turnBy
   turn-none n h =
       let m : 5 ≤ which = omega arith in
       let k : 7 ≤ which = omega arith in
-      let l : 10 ≤ which = omega arith in
-      let b : 12 < which = omega arith in
-      let v : 16 < which = omega arith in
+      let l : 11 ≤ which = omega arith in
+      let b : 13 < which = omega arith in
+      let v : 17 < which = omega arith in
       rw (le-ltb _ _ m, le-ltb _ _ k, le-ltb _ _ l, ne-eqb _ _ n, lt-leb _ _ b, lt-leb _ _ v, lt-leb _ _ h) refl
 
 -- the requests of the tables have no octets
@@ -105,9 +105,9 @@ module _ (line scratch rest : List ℕ) (r : Request) (e : taken r rest ≡ requ
   asked-same = ap saysOf e ∙ request-says line scratch h
 
   -- so its turn is the line's
-  pub turn-asked : (T : Tables) → length (T .states) ≡ 4096 → length (T .owners) ≡ 4096 → turnBy T (r .which) (saidIn rest (r .fields)) ≡ turnIn (length scratch) line T
+  pub turn-asked : (T : Tables) → length (T .states) ≡ 4096 → length (T .owners) ≡ 4096 → length (T .helpers) ≡ 4096 → turnBy T (r .which) (saidIn rest (r .fields)) ≡ turnIn (length scratch) line T
   unfolding turnOf
-  turn-asked T p q = rw (le-ltb _ _ h, eq-eqb _ _ p, eq-eqb _ _ q) (says-turn T r rest ∙ ap (turnFor T) asked-same)
+  turn-asked T p q k = rw (le-ltb _ _ h, eq-eqb _ _ p, eq-eqb _ _ q, eq-eqb _ _ k) (says-turn T r rest ∙ ap (turnFor T) asked-same)
 
 -- where a table or the scratch is too short
 module _ (line : List ℕ) (n : ℕ) (T : Tables) where
@@ -121,3 +121,7 @@ module _ (line : List ℕ) (n : ℕ) (T : Tables) where
   pub turn-owners : 4168 ≤ n → length (T .states) ≡ 4096 → (length (T .owners) ≡ 4096 → ⊥) → turn T (refusal 16) ≡ turnIn n line T
   unfolding turnOf
   turn-owners h p q = rw (le-ltb _ _ h, eq-eqb _ _ p, ne-eqb _ _ q) refl
+
+  pub turn-helpers : 4168 ≤ n → length (T .states) ≡ 4096 → length (T .owners) ≡ 4096 → (length (T .helpers) ≡ 4096 → ⊥) → turn T (refusal 16) ≡ turnIn n line T
+  unfolding turnOf
+  turn-helpers h p q k = rw (le-ltb _ _ h, eq-eqb _ _ p, eq-eqb _ _ q, ne-eqb _ _ k) refl

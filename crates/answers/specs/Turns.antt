@@ -29,7 +29,7 @@ badTurn T = turn T (said "bad line")
 abbrev pub blockTurn : Tables → ℕ → List FieldSays → Turn
 blockTurn T which gs =
     let a = blockDone (T .states) which gs in
-    turn (tables (a .states) (T .owners)) (noticeLine (a .answer) (a .buffer))
+    turn (tables (a .states) (T .owners) (T .helpers)) (noticeLine (a .answer) (a .buffer))
 
 -- a row of the table, by its family: the codec's stand before `number`, those for numbers before `own`, those of the tables before `act`, then those that block from our side, then those for velocities, and then BICC's
 unfoldable pub turnBy : Tables → ℕ → List FieldSays → Turn

@@ -26,10 +26,11 @@ fn answer_request(
     octets: &[u8],
     states: &mut [u8],
     owners: &mut [u8],
+    helpers: &mut [u8],
     out: &mut [u8],
 ) -> usize
-    ensures { λ r. ⌜ left (tables (now (states .exit)) (now (owners .exit))) (sheet (now (out .exit)) r) ≡
-        leftBy (turnBy (tables (now (states .entry)) (now (owners .entry))) (request .which) (saidIn (now (octets .entry)) (request .fields))) (sheet (now (out .entry)) 0) ⌝ }
+    ensures { λ r. ⌜ left (tables (now (states .exit)) (now (owners .exit)) (now (helpers .exit))) (sheet (now (out .exit)) r) ≡
+        leftBy (turnBy (tables (now (states .entry)) (now (owners .entry)) (now (helpers .entry))) (request .which) (saidIn (now (octets .entry)) (request .fields))) (sheet (now (out .entry)) 0) ⌝ }
 {
     if request.which < NUMBER {
         return codec_lines::codec_line(request, octets, out);
@@ -38,10 +39,10 @@ fn answer_request(
         return number_lines::numbers_line(request, octets, out);
     }
     if request.which < ACT {
-        return table_lines::table_turn(request, states, owners, out);
+        return table_lines::table_turn(request, states, owners, helpers, out);
     }
     if request.which == ACT {
-        return table_lines::act_turn(request, octets, states, owners, out);
+        return table_lines::act_turn(request, octets, states, owners, helpers, out);
     }
     if request.which <= UNBLOCK {
         return block_lines::block_turn(request, states, out);
@@ -60,11 +61,12 @@ fn answer_line(
     line: &[u8],
     states: &mut [u8],
     owners: &mut [u8],
+    helpers: &mut [u8],
     scratch: &mut [u8],
     out: &mut [u8],
 ) -> usize
-    ensures { λ r. ⌜ left (tables (now (states .exit)) (now (owners .exit))) (sheet (now (out .exit)) r) ≡
-        leftBy (turnIn (length (now (scratch .entry))) (now (line .entry)) (tables (now (states .entry)) (now (owners .entry)))) (sheet (now (out .entry)) 0) ⌝ }
+    ensures { λ r. ⌜ left (tables (now (states .exit)) (now (owners .exit)) (now (helpers .exit))) (sheet (now (out .exit)) r) ≡
+        leftBy (turnIn (length (now (scratch .entry))) (now (line .entry)) (tables (now (states .entry)) (now (owners .entry)) (now (helpers .entry)))) (sheet (now (out .entry)) 0) ⌝ }
 {
     if scratch.len() < SCRATCH_LEAST {
         return printing::put_text(b"bad line", out, 0);
@@ -75,8 +77,11 @@ fn answer_line(
     if owners.len() != CIRCUITS {
         return lines::say_refusal(16, out);
     }
+    if helpers.len() != CIRCUITS {
+        return lines::say_refusal(16, out);
+    }
     let request = requests::request_of(line, scratch);
-    answer_request(request, scratch, states, owners, out)
+    answer_request(request, scratch, states, owners, helpers, out)
 }
 
 // Answers a line: the tables are as the request left them, and the answer's line, with its LF, is at the front of `out`. Answers how many octets it has.
@@ -86,12 +91,13 @@ pub fn answer(
     line: &[u8],
     states: &mut [u8],
     owners: &mut [u8],
+    helpers: &mut [u8],
     scratch: &mut [u8],
     out: &mut [u8],
 ) -> usize
-    ensures { λ r. ⌜ left (tables (now (states .exit)) (now (owners .exit))) (sheet (now (out .exit)) r) ≡
-        withLineEnd (leftBy (turnIn (length (now (scratch .entry))) (now (line .entry)) (tables (now (states .entry)) (now (owners .entry)))) (sheet (now (out .entry)) 0)) ⌝ }
+    ensures { λ r. ⌜ left (tables (now (states .exit)) (now (owners .exit)) (now (helpers .exit))) (sheet (now (out .exit)) r) ≡
+        withLineEnd (leftBy (turnIn (length (now (scratch .entry))) (now (line .entry)) (tables (now (states .entry)) (now (owners .entry)) (now (helpers .entry)))) (sheet (now (out .entry)) 0)) ⌝ }
 {
-    let end = answer_line(line, states, owners, scratch, out);
+    let end = answer_line(line, states, owners, helpers, scratch, out);
     printing::put_octet(b'\n', out, end)
 }

@@ -6,7 +6,7 @@ use mathlib.Core.List.{List}
 use lib.ListN.{length, replicate, length-set}
 use Rattle.hub.specs.Tables.{tables}
 use Rattle.hub.proofs.Called.{states-length}
-use Rattle.day.specs.Hub.{Rows, heardOf}
+use Rattle.day.specs.Hub.{Rows, heardOf, unhelped}
 use Rattle.day.specs.Day.{Day, countedIf, heardIn, sizedBy, daySized}
 
 -- ---- the tables keep their lengths
@@ -21,7 +21,7 @@ kept-all t = record { owners = refl; rows = refl; accepted = refl; refused = ref
 
 heard-length : (owners : List ℕ) (rows : Rows) (sender : ℕ) (m : List ℕ) → length (heardOf owners rows sender m .rows) ≡ length rows
 unfolding heardOf
-heard-length owners rows sender m = states-length (tables rows owners) sender m (replicate 268 0)
+heard-length owners rows sender m = states-length (tables rows owners (unhelped owners)) sender m (replicate 268 0)
 
 pub heard-kept : (sender : ℕ) (m : List ℕ) (t : Day) → Kept t (heardIn sender m t)
 unfolding heardIn

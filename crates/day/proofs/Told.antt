@@ -13,20 +13,21 @@ use Rattle.octets.specs.Choice.{if_then_else_}
 use Rattle.octets.specs.declared.Written.the-variants.{Refused, Octets}
 use Rattle.hub.specs.Tables.{tables}
 use Rattle.hub.specs.Acts.{after, actOf}
+use Rattle.hub.proofs.Unhelped.{owners-help-none}
 use Rattle.book.specs.declared.Await.the-variants.{SpanCount, Bad}
-use Rattle.day.specs.Hub.{Rows, atFirst, heardAs, heardBy, heardOf}
+use Rattle.day.specs.Hub.{Rows, atFirst, heardAs, heardBy, unhelped, heardOf}
 use Rattle.day.specs.Day.{nobody, Day, day, machine, oneMore, countedIf, heardIn, start, zeros, sizedBy, daySized, begunOf}
 use Rattle.octets.specs.declared.Written.{Written}
 use Rattle.octets.specs.Told.{writtenTold}
 
 -- ---- a message
-pub heard-taken : (owners : List ℕ) (rows : Rows) (sender : ℕ) (m : List ℕ) {r : Written} {n : ℕ} {states answer : List ℕ} → after (writtenTold r) states answer ≡ actOf (tables rows owners) sender m (replicate 268 0) → r ≡ Octets n → heardAs states true ≡ heardOf owners rows sender m
-unfolding heardOf
-heard-taken owners rows sender m {r} {n} {states} {answer} e p = (λ i. heardBy (after (writtenTold (sym p i)) states answer)) ∙ ap heardBy e
+pub heard-taken : (owners : List ℕ) (rows : Rows) (sender : ℕ) (m : List ℕ) {r : Written} {n : ℕ} {states answer : List ℕ} → after (writtenTold r) states answer ≡ actOf (tables rows owners owners) sender m (replicate 268 0) → r ≡ Octets n → heardAs states true ≡ heardOf owners rows sender m
+unfolding heardOf unhelped
+heard-taken owners rows sender m {r} {n} {states} {answer} e p = (λ i. heardBy (after (writtenTold (sym p i)) states answer)) ∙ ap heardBy (e ∙ owners-help-none rows owners sender m (replicate 268 0))
 
-pub heard-refused : (owners : List ℕ) (rows : Rows) (sender : ℕ) (m : List ℕ) {r : Written} {n at : ℕ} {states answer : List ℕ} → after (writtenTold r) states answer ≡ actOf (tables rows owners) sender m (replicate 268 0) → r ≡ Refused n at → heardAs states false ≡ heardOf owners rows sender m
-unfolding heardOf
-heard-refused owners rows sender m {r} {n} {states} {answer} e p = (λ i. heardBy (after (writtenTold (sym p i)) states answer)) ∙ ap heardBy e
+pub heard-refused : (owners : List ℕ) (rows : Rows) (sender : ℕ) (m : List ℕ) {r : Written} {n at : ℕ} {states answer : List ℕ} → after (writtenTold r) states answer ≡ actOf (tables rows owners owners) sender m (replicate 268 0) → r ≡ Refused n at → heardAs states false ≡ heardOf owners rows sender m
+unfolding heardOf unhelped
+heard-refused owners rows sender m {r} {n} {states} {answer} e p = (λ i. heardBy (after (writtenTold (sym p i)) states answer)) ∙ ap heardBy (e ∙ owners-help-none rows owners sender m (replicate 268 0))
 
 counted-in : (t : Day) (sender : ℕ) (m : List ℕ) {rows : Rows} {taken : Bool} → heardAs rows taken ≡ heardOf (t .owners) (t .rows) sender m → (b : Bool) → taken ≡ b → countedIf b sender (heardAs rows b) t ≡ heardIn sender m t
 unfolding heardIn

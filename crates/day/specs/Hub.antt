@@ -2,7 +2,7 @@
 -- A change of the hub's call changes this page and `hear`, and nothing else of a replay.
 use Prim.Native.Nat.{ℕ, _%_}
 use mathlib.Core.List.{List}
-use lib.ListN.{replicate}
+use lib.ListN.{length, replicate}
 use Rattle.octets.specs.Octet.{octet}
 use mathlib.Core.Bool.{Bool, true, false}
 use Rattle.octets.specs.Answer.{Answer, accepted, refused}
@@ -39,6 +39,10 @@ isAccepted (refused n at) = false
 abbrev pub heardBy : After → Heard
 heardBy r = heardAs (r .states) (isAccepted (r .answer))
 
--- by the circuit rules, with an answer buffer of 268 octets
+-- a book names no helpers: a table as long as the owners', with 0 for each circuit
+unfoldable pub unhelped : List ℕ → List ℕ
+unhelped owners = replicate (length owners) 0
+
+-- by the circuit rules, with nobody's help and an answer buffer of 268 octets
 unfoldable pub heardOf : List ℕ → Rows → ℕ → List ℕ → Heard
-heardOf owners rows sender m = heardBy (actOf (tables rows owners) sender m (replicate 268 0))
+heardOf owners rows sender m = heardBy (actOf (tables rows owners (unhelped owners)) sender m (replicate 268 0))

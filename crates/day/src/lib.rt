@@ -82,12 +82,14 @@ fn count_one(counters: &mut [u16], sender: u8)
     }
 }
 
-// The hub hears a message: the rows change, and whether it was accepted is answered.
+// The hub hears a message: the rows change, and whether it was accepted is answered. A book names
+// no helpers. The owners are lent in their place: who helps only what it owns helps nothing
+// (`owners-help-none`), and no table of zeros has to be made for each message.
 fn hear(owners: &[u8], states: &mut [u8], sender: u8, message: &[u8]) -> bool
     ensures { λ r. ⌜ heardAs (now (states .exit)) r ≡ heardOf (now (owners .entry)) (now (states .entry)) sender (now (message .entry)) ⌝ }
 {
     let mut answer = [0u8; 268];
-    match hub::act(states, owners, sender as u32, message, &mut answer) {
+    match hub::act(states, owners, owners, sender as u32, message, &mut answer) {
         Written::Octets(_) => true,
         Written::Refused(_, _) => false,
     }

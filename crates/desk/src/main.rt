@@ -27,11 +27,12 @@ fn serve(
     length: usize,
     states: &mut [u8],
     owners: &mut [u8],
+    helpers: &mut [u8],
     scratch: &mut [u8],
     out: &mut [u8],
 ) -> bool {
     if length <= line.len() {
-        let n = answers::answer(&line[0..length], states, owners, scratch, out);
+        let n = answers::answer(&line[0..length], states, owners, helpers, scratch, out);
         if n <= out.len() {
             return io::write_all(STDOUT_FILENO, &out[0..n]);
         }
@@ -58,12 +59,21 @@ fn take_octet(
     held: usize,
     states: &mut [u8],
     owners: &mut [u8],
+    helpers: &mut [u8],
     scratch: &mut [u8],
     out: &mut [u8],
     written: &mut bool,
 ) -> usize {
     if octet == b'\n' {
-        *written = serve(line, without_cr(line, held), states, owners, scratch, out);
+        *written = serve(
+            line,
+            without_cr(line, held),
+            states,
+            owners,
+            helpers,
+            scratch,
+            out,
+        );
         return 0;
     }
     printing::put_octet(octet, line, held)
@@ -76,6 +86,7 @@ fn take_in(
     held: usize,
     states: &mut [u8],
     owners: &mut [u8],
+    helpers: &mut [u8],
     scratch: &mut [u8],
     out: &mut [u8],
     written: &mut bool,
@@ -92,6 +103,7 @@ fn take_in(
             length,
             states,
             owners,
+            helpers,
             scratch,
             out,
             written,
@@ -108,6 +120,7 @@ fn read_some(
     held: &mut usize,
     states: &mut [u8],
     owners: &mut [u8],
+    helpers: &mut [u8],
     scratch: &mut [u8],
     out: &mut [u8],
     written: &mut bool,
@@ -126,6 +139,7 @@ fn read_some(
         *held,
         states,
         owners,
+        helpers,
         scratch,
         out,
         written,
@@ -139,6 +153,7 @@ fn read_all(
     line: &mut [u8],
     states: &mut [u8],
     owners: &mut [u8],
+    helpers: &mut [u8],
     scratch: &mut [u8],
     out: &mut [u8],
     written: &mut bool,
@@ -152,6 +167,7 @@ fn read_all(
             &mut held,
             states,
             owners,
+            helpers,
             scratch,
             out,
             written,
@@ -178,11 +194,12 @@ fn serve_last(
     written: bool,
     states: &mut [u8],
     owners: &mut [u8],
+    helpers: &mut [u8],
     scratch: &mut [u8],
     out: &mut [u8],
 ) -> bool {
     if 0 < held {
-        return serve(line, held, states, owners, scratch, out);
+        return serve(line, held, states, owners, helpers, scratch, out);
     }
     written
 }
@@ -193,12 +210,22 @@ fn run(
     line: &mut [u8],
     states: &mut [u8],
     owners: &mut [u8],
+    helpers: &mut [u8],
     scratch: &mut [u8],
     out: &mut [u8],
 ) {
     let mut written = true;
-    let held = read_all(chunk, line, states, owners, scratch, out, &mut written);
-    if !serve_last(line, held, written, states, owners, scratch, out) {
+    let held = read_all(
+        chunk,
+        line,
+        states,
+        owners,
+        helpers,
+        scratch,
+        out,
+        &mut written,
+    );
+    if !serve_last(line, held, written, states, owners, helpers, scratch, out) {
         tell(b"desk: an answer could not be written, and the desk ends there\n");
     }
 }
@@ -206,6 +233,7 @@ fn run(
 fn main() {
     let mut states = io::buffer();
     let mut owners = io::buffer();
+    let mut helpers = io::buffer();
     let mut chunk = io::large_buffer();
     let mut line = io::large_buffer();
     let mut scratch = io::large_buffer();
@@ -215,6 +243,7 @@ fn main() {
         &mut line,
         &mut states,
         &mut owners,
+        &mut helpers,
         &mut scratch,
         &mut out,
     );

@@ -22,9 +22,9 @@ use Rattle.hub.specs.Tables.{tables, sized}
 use Rattle.hub.specs.Acts.{carriedOut, allowedOf, grantOf, actOf}
 use Rattle.hub.specs.Arrival.{heard, Call, Reply, hub}
 use Rattle.hub.proofs.Called.{answer-or, act-keeps, accepted-sender}
-use Rattle.hub.proofs.Orders.{party-answers-alone, rows-end-alone}
+use Rattle.hub.proofs.Orders.{no-helpers, party-answers-alone, owned-rows-end-alone}
 use Rattle.book.specs.Book.{Recorded, Book, AllEntries, Good}
-use Rattle.day.specs.Hub.{Rows, atFirst, busyAt, Heard, heardAs, isAccepted, heardBy, heardOf}
+use Rattle.day.specs.Hub.{Rows, atFirst, busyAt, Heard, heardAs, isAccepted, heardBy, unhelped, heardOf}
 use Rattle.tallies.specs.declared.Tally.{Tally}
 use Rattle.tallies.specs.Lines.{tally}
 use Rattle.tallies.specs.Reports.{busyOf}
@@ -33,6 +33,10 @@ use Rattle.feeding.proofs.Counts.{all-counted}
 use Rattle.feeding.proofs.Sample.{none-busy}
 
 -- ---- a replay is a run of the hub's calls
+none-helps : (owners : List ℕ) (i : ℕ) → octet (unhelped owners) i ≡ 0
+unfolding unhelped
+none-helps owners i = zero-at (length owners) i
+
 -- a message of the book, as a call with an answer buffer of 268 octets
 abbrev callOf : Recorded → Call
 callOf s = record { asks = heard (s .sender) (s .message); buffer = replicate 268 0 }
@@ -48,58 +52,58 @@ wasAccepted r = isAccepted (r .answer)
 abbrev wasRefused : Reply → Bool
 wasRefused r = not (isAccepted (r .answer))
 
-run-rows : (owners : List ℕ) (ss : List Recorded) (rows : Rows) → rowsAtEnd owners rows ss ≡ stateAfter (hub owners) (callsIn ss) rows
+run-rows : (owners : List ℕ) (ss : List Recorded) (rows : Rows) → rowsAtEnd owners rows ss ≡ stateAfter (hub owners (unhelped owners)) (callsIn ss) rows
 unfolding rowsAtEnd heardOf stateAfter callsIn
 run-rows owners [] rows = refl
 run-rows owners (s ∷ ss) rows = run-rows owners ss (heardOf owners rows (s .sender) (s .message) .rows)
 
 -- a count over the fates of a sender's messages is one over the answers of its calls
-run-accepted : (owners : List ℕ) (q : ℕ) (ss : List Recorded) (rows : Rows) → count (acceptedFrom q) (outcomes owners rows ss) ≡ count wasAccepted (answersOf (hub owners) q (callsIn ss) rows)
+run-accepted : (owners : List ℕ) (q : ℕ) (ss : List Recorded) (rows : Rows) → count (acceptedFrom q) (outcomes owners rows ss) ≡ count wasAccepted (answersOf (hub owners (unhelped owners)) q (callsIn ss) rows)
 unfolding count outcomes heardOf answersOf callsIn
 run-accepted owners q [] rows = refl
 run-accepted owners q (s ∷ ss) rows = go (eqb (s .sender) q) (run-accepted owners q ss (heardOf owners rows (s .sender) (s .message) .rows))
   where
-    go : (b : Bool) → count (acceptedFrom q) (outcomes owners (heardOf owners rows (s .sender) (s .message) .rows) ss) ≡ count wasAccepted (answersOf (hub owners) q (callsIn ss) (heardOf owners rows (s .sender) (s .message) .rows))
+    go : (b : Bool) → count (acceptedFrom q) (outcomes owners (heardOf owners rows (s .sender) (s .message) .rows) ss) ≡ count wasAccepted (answersOf (hub owners (unhelped owners)) q (callsIn ss) (heardOf owners rows (s .sender) (s .message) .rows))
         → (if (if b then heardOf owners rows (s .sender) (s .message) .taken else false) then 1 else 0) + count (acceptedFrom q) (outcomes owners (heardOf owners rows (s .sender) (s .message) .rows) ss)
-        ≡ count wasAccepted (if b then hub owners .answer (callOf s) rows ∷ answersOf (hub owners) q (callsIn ss) (hub owners .after (callOf s) rows) else answersOf (hub owners) q (callsIn ss) (hub owners .after (callOf s) rows))
+        ≡ count wasAccepted (if b then hub owners (unhelped owners) .answer (callOf s) rows ∷ answersOf (hub owners (unhelped owners)) q (callsIn ss) (hub owners (unhelped owners) .after (callOf s) rows) else answersOf (hub owners (unhelped owners)) q (callsIn ss) (hub owners (unhelped owners) .after (callOf s) rows))
     go true e = ap (λ (n : ℕ). (if heardOf owners rows (s .sender) (s .message) .taken then 1 else 0) + n) e
     go false e = zero-add _ ∙ e
 
-run-refused : (owners : List ℕ) (q : ℕ) (ss : List Recorded) (rows : Rows) → count (refusedFrom q) (outcomes owners rows ss) ≡ count wasRefused (answersOf (hub owners) q (callsIn ss) rows)
+run-refused : (owners : List ℕ) (q : ℕ) (ss : List Recorded) (rows : Rows) → count (refusedFrom q) (outcomes owners rows ss) ≡ count wasRefused (answersOf (hub owners (unhelped owners)) q (callsIn ss) rows)
 unfolding count outcomes heardOf answersOf callsIn
 run-refused owners q [] rows = refl
 run-refused owners q (s ∷ ss) rows = go (eqb (s .sender) q) (run-refused owners q ss (heardOf owners rows (s .sender) (s .message) .rows))
   where
-    go : (b : Bool) → count (refusedFrom q) (outcomes owners (heardOf owners rows (s .sender) (s .message) .rows) ss) ≡ count wasRefused (answersOf (hub owners) q (callsIn ss) (heardOf owners rows (s .sender) (s .message) .rows))
+    go : (b : Bool) → count (refusedFrom q) (outcomes owners (heardOf owners rows (s .sender) (s .message) .rows) ss) ≡ count wasRefused (answersOf (hub owners (unhelped owners)) q (callsIn ss) (heardOf owners rows (s .sender) (s .message) .rows))
         → (if (if b then not (heardOf owners rows (s .sender) (s .message) .taken) else false) then 1 else 0) + count (refusedFrom q) (outcomes owners (heardOf owners rows (s .sender) (s .message) .rows) ss)
-        ≡ count wasRefused (if b then hub owners .answer (callOf s) rows ∷ answersOf (hub owners) q (callsIn ss) (hub owners .after (callOf s) rows) else answersOf (hub owners) q (callsIn ss) (hub owners .after (callOf s) rows))
+        ≡ count wasRefused (if b then hub owners (unhelped owners) .answer (callOf s) rows ∷ answersOf (hub owners (unhelped owners)) q (callsIn ss) (hub owners (unhelped owners) .after (callOf s) rows) else answersOf (hub owners (unhelped owners)) q (callsIn ss) (hub owners (unhelped owners) .after (callOf s) rows))
     go true e = ap (λ (n : ℕ). (if not (heardOf owners rows (s .sender) (s .message) .taken) then 1 else 0) + n) e
     go false e = zero-add _ ∙ e
 
 -- the sender's own calls are the same, with the others' messages or without
-own-calls : (owners : List ℕ) (q : ℕ) (ss : List Recorded) → callsOf (hub owners) q (callsIn (ownEntries q ss)) ≡ callsOf (hub owners) q (callsIn ss)
+own-calls : (owners : List ℕ) (q : ℕ) (ss : List Recorded) → callsOf (hub owners (unhelped owners)) q (callsIn (ownEntries q ss)) ≡ callsOf (hub owners (unhelped owners)) q (callsIn ss)
 unfolding ownEntries callsIn callsOf
 own-calls owners q [] = refl
 own-calls owners q (s ∷ ss) = go (eqb (s .sender) q) refl (own-calls owners q ss)
   where
-    go : (b : Bool) → eqb (s .sender) q ≡ b → callsOf (hub owners) q (callsIn (ownEntries q ss)) ≡ callsOf (hub owners) q (callsIn ss)
-        → callsOf (hub owners) q (callsIn (if b then s ∷ ownEntries q ss else ownEntries q ss)) ≡ (if b then callOf s ∷ callsOf (hub owners) q (callsIn ss) else callsOf (hub owners) q (callsIn ss))
+    go : (b : Bool) → eqb (s .sender) q ≡ b → callsOf (hub owners (unhelped owners)) q (callsIn (ownEntries q ss)) ≡ callsOf (hub owners (unhelped owners)) q (callsIn ss)
+        → callsOf (hub owners (unhelped owners)) q (callsIn (if b then s ∷ ownEntries q ss else ownEntries q ss)) ≡ (if b then callOf s ∷ callsOf (hub owners (unhelped owners)) q (callsIn ss) else callsOf (hub owners (unhelped owners)) q (callsIn ss))
     go true p e = rw p (ap (λ (l : List Call). callOf s ∷ l) e)
     go false p e = e
 
-own-answers-alike : (owners : List ℕ) (q : ℕ) (ss : List Recorded) (rows : Rows) → answersOf (hub owners) q (callsIn (ownEntries q ss)) rows ≡ answersOf (hub owners) q (callsIn ss) rows
+own-answers-alike : (owners : List ℕ) (q : ℕ) (ss : List Recorded) (rows : Rows) → answersOf (hub owners (unhelped owners)) q (callsIn (ownEntries q ss)) rows ≡ answersOf (hub owners (unhelped owners)) q (callsIn ss) rows
 own-answers-alike owners q ss rows =
-    party-answers-alone owners (callsIn (ownEntries q ss)) q rows
-    ∙ ap (λ (cs : List Call). answers (hub owners) cs rows) (own-calls owners q ss)
-    ∙ sym (party-answers-alone owners (callsIn ss) q rows)
+    party-answers-alone owners (unhelped owners) (callsIn (ownEntries q ss)) (no-helpers owners (unhelped owners) (none-helps owners) (callsIn (ownEntries q ss))) q rows
+    ∙ ap (λ (cs : List Call). answers (hub owners (unhelped owners)) cs rows) (own-calls owners q ss)
+    ∙ sym (party-answers-alone owners (unhelped owners) (callsIn ss) (no-helpers owners (unhelped owners) (none-helps owners) (callsIn ss)) q rows)
 
 -- and the rows of its circuits end alike
 own-rows-alike : (owners : List ℕ) (q : ℕ) (ss : List Recorded) (rows : Rows) (i : ℕ) → octet owners i ≡ q → octet (rowsAtEnd owners rows (ownEntries q ss)) i ≡ octet (rowsAtEnd owners rows ss) i
 own-rows-alike owners q ss rows i e =
-    let alone : (us : List Recorded) → octet (rowsAtEnd owners rows us) i ≡ octet (stateAfter (hub owners) (callsOf (hub owners) q (callsIn us)) rows) i =
-    (λ us. ap (λ (l : List ℕ). octet l i) (run-rows owners us rows) ∙ rows-end-alone owners (callsIn us) i rows ∙ ap (λ (p : ℕ). octet (stateAfter (hub owners) (callsOf (hub owners) p (callsIn us)) rows) i) e) in
+    let alone : (us : List Recorded) → octet (rowsAtEnd owners rows us) i ≡ octet (stateAfter (hub owners (unhelped owners)) (callsOf (hub owners (unhelped owners)) q (callsIn us)) rows) i =
+    (λ us. ap (λ (l : List ℕ). octet l i) (run-rows owners us rows) ∙ owned-rows-end-alone owners (unhelped owners) (none-helps owners) (callsIn us) i rows ∙ ap (λ (p : ℕ). octet (stateAfter (hub owners (unhelped owners)) (callsOf (hub owners (unhelped owners)) p (callsIn us)) rows) i) e) in
     alone (ownEntries q ss)
-    ∙ ap (λ (cs : List Call). octet (stateAfter (hub owners) cs rows) i) (own-calls owners q ss)
+    ∙ ap (λ (cs : List Call). octet (stateAfter (hub owners (unhelped owners)) cs rows) i) (own-calls owners q ss)
     ∙ sym (alone ss)
 
 busy-alike : (owners : List ℕ) (s t : Rows) (q c n : ℕ) → ((i : ℕ) → octet owners i ≡ q → octet s i ≡ octet t i) → busyOf owners s q c n ≡ busyOf owners t q c n
@@ -146,22 +150,22 @@ pub own-good : (b : Book) (q : ℕ) → Good b → Good (ownBook q b)
 own-good b q g = record { spanCount = g .spanCount; entryCount = omega (arith, own-fewer q (b .entries), g .entryCount); spans = g .spans; entries = own-all q (b .entries) (g .entries) }
 
 -- ---- a message of sender 0, or of length 0
-refused-as : (owners : List ℕ) (rows : Rows) (sender : ℕ) (m : List ℕ) (n at : ℕ) → actOf (tables rows owners) sender m (replicate 268 0) .answer ≡ refused n at → heardOf owners rows sender m ≡ heardAs rows false
+refused-as : (owners : List ℕ) (rows : Rows) (sender : ℕ) (m : List ℕ) (n at : ℕ) → actOf (tables rows owners (unhelped owners)) sender m (replicate 268 0) .answer ≡ refused n at → heardOf owners rows sender m ≡ heardAs rows false
 unfolding heardOf
-refused-as owners rows sender m n at e = λ i. heardAs (act-keeps (tables rows owners) sender m (replicate 268 0) n at e .0 i) (isAccepted (e i))
+refused-as owners rows sender m n at e = λ i. heardAs (act-keeps (tables rows owners (unhelped owners)) sender m (replicate 268 0) n at e .0 i) (isAccepted (e i))
 
 nobody-refused : (owners : List ℕ) (rows : Rows) (m : List ℕ) → heardOf owners rows 0 m ≡ heardAs rows false
 nobody-refused owners rows m =
     ⊎-elim
-    (λ e. absurd (accepted-sender (tables rows owners) 0 m (replicate 268 0) (e .0) (e .1) .0 refl))
+    (λ e. absurd (accepted-sender (tables rows owners (unhelped owners)) 0 m (replicate 268 0) (e .0) (e .1) .0 refl))
     (λ e. refused-as owners rows 0 m (e .0) (e .1) (e .2))
-    (answer-or (tables rows owners) 0 m (replicate 268 0))
+    (answer-or (tables rows owners (unhelped owners)) 0 m (replicate 268 0))
 
 empty-refused : (owners : List ℕ) (rows : Rows) (sender : ℕ) → heardOf owners rows sender [] ≡ heardAs rows false
 unfolding heardOf actOf grantOf askOf readOf partsOf
-empty-refused owners rows sender = go (sized (tables rows owners))
+empty-refused owners rows sender = go (sized (tables rows owners (unhelped owners)))
   where
-    go : (b : Bool) → heardBy (carriedOut (tables rows owners) [] (replicate 268 0) (if b then (askOf [] then allowedOf (tables rows owners) sender [] (length {A = ℕ} (replicate 268 0))) else refused 16 0)) ≡ heardAs rows false
+    go : (b : Bool) → heardBy (carriedOut (tables rows owners (unhelped owners)) [] (replicate 268 0) (if b then (askOf [] then allowedOf (tables rows owners (unhelped owners)) sender [] (length {A = ℕ} (replicate 268 0))) else refused 16 0)) ≡ heardAs rows false
     go true = refl
     go false = refl
 

@@ -14,15 +14,15 @@ use Rattle.isup.specs.Read.{readOf}
 use Rattle.rows.specs.Rows.{isLegal, blockedRow, changedRow}
 use Rattle.asks.specs.Types.{actFor}
 use Rattle.asks.specs.Asks.{askedIn, askOf, markOf}
-use Rattle.hub.specs.Rights.{firstNot}
+use Rattle.hub.specs.Rights.{mayHelp, firstNot}
 use Rattle.hub.specs.Replies.{statusIn, replyOf}
-use Rattle.hub.specs.Acts.{permittedOf, allowedOf, grantOf, actOf}
+use Rattle.hub.specs.Acts.{isUnhelpable, permittedOf, allowedOf, grantOf, actOf}
 use Rattle.octets.specs.Applied.{applied}
 use Rattle.words.specs.Said.{said}
 use Rattle.printing.specs.Shown.{decimalIn}
 use Rattle.octets.proofs.Octet.{zero-at}
 use Rattle.book.specs.Book.{Book, bookOctets, spansOctets, entriesOctets, Good}
-use Rattle.day.specs.Hub.{Rows, atFirst, busyAt, Heard, heardOf}
+use Rattle.day.specs.Hub.{unhelped, Rows, atFirst, busyAt, Heard, heardOf}
 use Rattle.day.specs.Day.{nobody, start}
 use Rattle.tallies.specs.Lines.{tally, fourNumbers, linesFrom, sumsFrom, linesFor}
 use Rattle.tallies.specs.Reports.{busyOf, text}
@@ -62,7 +62,7 @@ rowsThen = set atFirst 2 2
 
 -- BLO on circuit 2, which is 7's
 sample-heard : heardOf (ownersOf sampleBook) atFirst 7 (0x02 ∷ 0x00 ∷ 0x13 ∷ []) ≡ record { rows = rowsThen; taken = true }
-unfolding ownersFrom nobody atFirst heardOf actOf grantOf allowedOf permittedOf firstNot isLegal replyOf statusIn applied changedRow blockedRow markOf askOf askedIn actFor readOf partsOf containerOf variableSlot optionalSlot judged sharesOf shapeOf held
+unfolding ownersFrom nobody atFirst unhelped heardOf actOf grantOf allowedOf permittedOf isUnhelpable mayHelp firstNot isLegal replyOf statusIn applied changedRow blockedRow markOf askOf askedIn actFor readOf partsOf containerOf variableSlot optionalSlot judged sharesOf shapeOf held
 sample-heard = refl
 
 -- no circuit is busy

@@ -1,6 +1,7 @@
 -- What a call leaves: a refusal keeps all, and an accepted call changes the named rows and fills the buffer's front.
 use Prim.Native.Nat.{ℕ, _+_, _≤_, _<_}
 use mathlib.Core.Path.{_≡_, refl, sym, _∙_, ap}
+use mathlib.Core.Bool.{Bool, false}
 use mathlib.Core.List.{List}
 use mathlib.Core.Logic.{_⊎_, inl, inr, ⊎-elim}
 use native.Mathlib.Omega.{arith}
@@ -9,6 +10,7 @@ use borrow.Author.Tests.{ltb-true, ltb-false}
 use lib.Dec.{ltb}
 use lib.ListN.{length, length-append, length-drop}
 use Rattle.octets.specs.Octet.{octet}
+use Rattle.octets.specs.Choice.{if_then_else_}
 use Rattle.octets.specs.Answer.{Answer, accepted, refused}
 use Rattle.octets.specs.Filled.{filled}
 use Rattle.octets.proofs.Answer.{refused-accepted, accepted-same}
@@ -21,14 +23,14 @@ use Rattle.rows.specs.Rows.{rowOf}
 use Rattle.asks.specs.Asks.{askIn, markOf, askOf}
 use Rattle.asks.proofs.Reading.{asked-is, ask-read, ask-last}
 use Rattle.hub.specs.Tables.{Tables}
-use Rattle.hub.specs.Rights.{isMine}
+use Rattle.hub.specs.Rights.{isMine, hasRight, mayHelp, firstUnowned, isFound}
 use Rattle.hub.specs.Rows.{effect, rowsAfter}
 use Rattle.hub.specs.Replies.{replyOf}
-use Rattle.hub.specs.Acts.{grantOf, After, carriedOut, actOf}
-use Rattle.hub.specs.Names.{Mine, Named, Names}
+use Rattle.hub.specs.Acts.{isUnhelpable, grantOf, After, carriedOut, actOf}
+use Rattle.hub.specs.Names.{Mine, HasRight, Named, Names}
 use Rattle.octets.proofs.Applied.{length-applied, applied-below, applied-past, applied-in}
 use Rattle.hub.proofs.Given.{Allowed, granted}
-use Rattle.hub.proofs.Meaning.{mine-is, found-none}
+use Rattle.hub.proofs.Meaning.{mine-is, right-is, found-none}
 
 -- ---- the rows after a message
 module _ (m : List ℕ) (a : Ask) (states : List ℕ) where
@@ -158,25 +160,34 @@ module _ (T : Tables) (sender : ℕ) (m buffer : List ℕ) where
       (λ e. ap (λ (l : List ℕ). octet l c) (act-keeps (e .0) (e .1) (e .2) .0))
       answer-or
 
-  -- an accepted call names the sender's circuits alone
-  pub names-mine : (a : Ask) → Allowed T sender m (length buffer) a → (c : ℕ) → Named a c → Mine (T .owners) sender c
-  names-mine a g c n =
-      mine-is (T .owners) sender c (found-none (isMine (T .owners) sender) (a .circuit) (a .range + 1) (g .mine) c (n .0) (omega (arith, n .1)))
+  -- an accepted call names circuits alone on which the sender has a right
+  pub names-right : (a : Ask) → Allowed T sender m (length buffer) a → (c : ℕ) → Named a c → HasRight T sender c
+  names-right a g c n =
+      right-is T sender c (found-none (hasRight (T .owners) (T .helpers) sender) (a .circuit) (a .range + 1) (g .right) c (n .0) (omega (arith, n .1)))
 
-  -- a row that is not the sender's stays: only rows that the sender owns change
-  pub only-mine : (c : ℕ) → (Mine (T .owners) sender c → ⊥) → octet (actOf T sender m buffer .states) c ≡ octet (T .states) c
-  only-mine c out =
+  -- and where a helper may not do the act, circuits alone that it owns
+  pub names-mine : (a : Ask) → Allowed T sender m (length buffer) a → mayHelp (a .act) (a .block) ≡ false → (c : ℕ) → Named a c → Mine (T .owners) sender c
+  unfolding isUnhelpable
+  names-mine a g h c n =
+      let u : isFound (firstUnowned (T .owners) sender (a .circuit) (a .range + 1)) ≡ false = ap (λ (b : Bool). if b then false else isFound (firstUnowned (T .owners) sender (a .circuit) (a .range + 1))) (sym h) ∙ g .helps in
+      mine-is (T .owners) sender c (found-none (isMine (T .owners) sender) (a .circuit) (a .range + 1) u c (n .0) (omega (arith, n .1)))
+
+  -- a row on which the sender has no right stays
+  pub only-right : (c : ℕ) → (HasRight T sender c → ⊥) → octet (actOf T sender m buffer .states) c ≡ octet (T .states) c
+  only-right c out =
       ⊎-elim
       (λ e.
       let d = call-accepted (e .0) (e .1) in
       ap (λ (l : List ℕ). octet l c) (d .rows)
-      ∙ ⊎-elim (λ n. absurd (out (names-mine (d .ask) (d .allowed) c n))) (λ h. row-outside m (d .ask) (T .states) c h) (named-or (d .ask) c))
+      ∙ ⊎-elim (λ n. absurd (out (names-right (d .ask) (d .allowed) c n))) (λ h. row-outside m (d .ask) (T .states) c h) (named-or (d .ask) c))
       (λ e. ap (λ (l : List ℕ). octet l c) (act-keeps (e .0) (e .1) (e .2) .0))
       answer-or
 
-  -- only a sender who is not 0 is ever accepted, and none above 255 where the owners are octets
-  pub accepted-sender : (n : ℕ) → actOf T sender m buffer .answer ≡ accepted n → (sender ≡ 0 → ⊥) × (((c : ℕ) → octet (T .owners) c < 256) → sender < 256)
+  -- only a sender who is not 0 is ever accepted, and none above 255 where owners and helpers are octets
+  pub accepted-sender : (n : ℕ) → actOf T sender m buffer .answer ≡ accepted n → (sender ≡ 0 → ⊥) × (((c : ℕ) → octet (T .owners) c < 256) → ((c : ℕ) → octet (T .helpers) c < 256) → sender < 256)
   accepted-sender n e =
       let d = call-accepted n e in
-      let w = names-mine (d .ask) (d .allowed) (d .ask .circuit) (omega arith, omega arith) in
-      (w .1, λ o. omega (arith, w .0, o (d .ask .circuit)))
+      let w = names-right (d .ask) (d .allowed) (d .ask .circuit) (omega arith, omega arith) in (
+        ⊎-elim (λ k. k .1) (λ k. k .1) w,
+        λ o h. ⊎-elim (λ k. omega (arith, k .0, o (d .ask .circuit))) (λ k. omega (arith, k .0, h (d .ask .circuit))) w,
+      )

@@ -69,6 +69,6 @@ message-keeps-local T sender m buffer c =
         ap (octet (T .states)) q ∙ z
 
 -- legal rows stay legal under both kinds of call
-pub call-legal : (owners : List ℕ) (a : Event) (buffer s : List ℕ) (c : ℕ) → Legal (octet s c) → Legal (octet (doneBy owners a buffer s .states) c)
-call-legal owners (heard sender m) buffer s c h = legal-stays (tables s owners) sender m buffer c h
-call-legal owners (ours circuit set) buffer s c h = desk-legal-stays s circuit set buffer c h
+pub call-legal : (owners helpers : List ℕ) (a : Event) (buffer s : List ℕ) (c : ℕ) → Legal (octet s c) → Legal (octet (doneBy owners helpers a buffer s .states) c)
+call-legal owners helpers (heard sender m) buffer s c h = legal-stays (tables s owners helpers) sender m buffer c h
+call-legal owners helpers (ours circuit set) buffer s c h = desk-legal-stays s circuit set buffer c h

@@ -1,7 +1,7 @@
 pub mod Searches
 pub mod Writing
-pub mod Given
 pub mod Meaning
+pub mod Given
 pub mod Judged
 pub mod Places
 pub mod Called
@@ -13,5 +13,6 @@ pub mod Rules
 pub mod Spare
 pub mod ReadBack
 pub mod Refutations
+pub mod Unhelped
 pub mod Orders
 pub mod OneBuffer

@@ -1,7 +1,7 @@
 -- What a call depends on: its message, its sender, the lent buffer, and the states and owners of the circuits that its message names.
-use Prim.Native.Nat.{ℕ, _+_}
+use Prim.Native.Nat.{ℕ, _+_, _≤_, _<_}
 use mathlib.Core.Path.{_≡_, refl, sym, _∙_, ap, subst}
-use mathlib.Core.Bool.{false, not}
+use mathlib.Core.Bool.{true, false, not}
 use mathlib.Core.List.{List}
 use native.Mathlib.Omega.{arith}
 use lib.Dec.{ltb, eqb}
@@ -18,19 +18,19 @@ use Rattle.asks.specs.declared.Ask.{Ask}
 use Rattle.replies.specs.Replies.{replyLength}
 use Rattle.hub.specs.Tables.{Tables}
 use Rattle.asks.specs.Asks.{askOf}
-use Rattle.hub.specs.Rights.{isMine, firstForeign, firstIllegal, isFound}
+use Rattle.hub.specs.Rights.{isMine, hasRight, mayHelp, firstForeign, firstUnowned, firstIllegal, isFound}
 use Rattle.hub.specs.Rows.{effect}
 use Rattle.hub.specs.Replies.{replyOf}
-use Rattle.hub.specs.Acts.{isTaken, permittedOf, roomed, allowedOf, grantOf, carriedOut, actOf}
+use Rattle.hub.specs.Acts.{isTaken, isUnhelpable, permittedOf, roomed, allowedOf, grantOf, carriedOut, actOf}
 use Rattle.hub.specs.Names.{Named, Names}
 use Rattle.hub.proofs.Meaning.{search-same}
 use Rattle.hub.proofs.Writing.{length-reply, reply-alike}
 use Rattle.hub.proofs.Given.{permitted, granted, grant-sized}
 use Rattle.hub.proofs.Called.{row-inside, asks-so, reaches}
 
--- the two pairs of tables agree on the circuits that the message names
+-- the two sets of tables agree on the circuits that the message names
 abbrev pub AgreeOn : List ℕ → Tables → Tables → Type 0
-AgreeOn m T U = (c : ℕ) → Names m c → (octet (T .states) c ≡ octet (U .states) c) × (octet (T .owners) c ≡ octet (U .owners) c)
+AgreeOn m T U = (c : ℕ) → Names m c → (octet (T .states) c ≡ octet (U .states) c) × (octet (T .owners) c ≡ octet (U .owners) c) × (octet (T .helpers) c ≡ octet (U .helpers) c)
 
 -- 21 looks at the circuit's row alone
 taken-same : (s t : List ℕ) (act : Act) (c : ℕ) → octet s c ≡ octet t c → isTaken s act c ≡ isTaken t act c
@@ -52,12 +52,16 @@ module _ (T U : Tables) (sender : ℕ) (m : List ℕ) where
       (length-reply (T .states) m a ∙ ap (replyLength (a .act) (a .range)) e ∙ sym (length-reply (U .states) m a))
 
   -- the checks look at the named rows alone
-  pub allowed-same : (room : ℕ) (a : Ask) → ((c : ℕ) → Named a c → (octet (T .states) c ≡ octet (U .states) c) × (octet (T .owners) c ≡ octet (U .owners) c)) → allowedOf T sender m room a ≡ allowedOf U sender m room a
-  unfolding allowedOf permittedOf
+  pub allowed-same : (room : ℕ) (a : Ask) → ((c : ℕ) → Named a c → (octet (T .states) c ≡ octet (U .states) c) × (octet (T .owners) c ≡ octet (U .owners) c) × (octet (T .helpers) c ≡ octet (U .helpers) c)) → allowedOf T sender m room a ≡ allowedOf U sender m room a
+  unfolding allowedOf permittedOf isUnhelpable
   allowed-same room a h =
-      let f : firstForeign (T .owners) sender (a .circuit) (a .range + 1) ≡ firstForeign (U .owners) sender (a .circuit) (a .range + 1) =
-      search-same (isMine (T .owners) sender) (isMine (U .owners) sender) (a .circuit) (a .range + 1)
-      (λ j p q. ap (λ (o : ℕ). if eqb sender 0 then false else eqb o sender) (h j (p, omega arith) .1)) in
+      let o : (j : ℕ) → a .circuit ≤ j → j < a .circuit + (a .range + 1) → isMine (T .owners) sender j ≡ isMine (U .owners) sender j =
+      λ j p q. ap (λ (k : ℕ). if eqb sender 0 then false else eqb k sender) (h j (p, omega arith) .1) in
+      let f : firstForeign (T .owners) (T .helpers) sender (a .circuit) (a .range + 1) ≡ firstForeign (U .owners) (U .helpers) sender (a .circuit) (a .range + 1) =
+      search-same (hasRight (T .owners) (T .helpers) sender) (hasRight (U .owners) (U .helpers) sender) (a .circuit) (a .range + 1)
+      (λ j p q. (let e = o j p q in let g = ap (λ (k : ℕ). if eqb sender 0 then false else eqb k sender) (h j (p, omega arith) .2) in λ i. if e i then true else g i)) in
+      let u : firstUnowned (T .owners) sender (a .circuit) (a .range + 1) ≡ firstUnowned (U .owners) sender (a .circuit) (a .range + 1) =
+      search-same (isMine (T .owners) sender) (isMine (U .owners) sender) (a .circuit) (a .range + 1) o in
       let l : firstIllegal (T .states) (a .circuit) (a .range + 1) ≡ firstIllegal (U .states) (a .circuit) (a .range + 1) =
       search-same (λ c. isLegal (octet (T .states) c)) (λ c. isLegal (octet (U .states) c)) (a .circuit) (a .range + 1)
       (λ j p q. ap isLegal (h j (p, omega arith) .0)) in
@@ -66,17 +70,18 @@ module _ (T U : Tables) (sender : ℕ) (m : List ℕ) where
       then-same (permittedOf T sender a)
       (λ i.
       if isFound (f i) then refused 19 0
+      else if (if mayHelp (a .act) (a .block) then false else isFound (u i)) then refused 22 0
       else if isFound (l i) then refused 20 0
       else if t i then refused 21 0
       else accepted a)
       (λ b e. let s : a ≡ b = permitted T sender a b e .0 in roomed-same room b (subst (λ (y : Ask). octet (T .states) (y .circuit) ≡ octet (U .states) (y .circuit)) s (h (a .circuit) (omega arith, omega arith) .0)))
 
-  module _ (p : length (T .states) ≡ 4096) (p′ : length (U .states) ≡ 4096) (q : length (T .owners) ≡ 4096) (q′ : length (U .owners) ≡ 4096) (agree : AgreeOn m T U) where
+  module _ (p : length (T .states) ≡ 4096) (p′ : length (U .states) ≡ 4096) (q : length (T .owners) ≡ 4096) (q′ : length (U .owners) ≡ 4096) (w : length (T .helpers) ≡ 4096) (w′ : length (U .helpers) ≡ 4096) (agree : AgreeOn m T U) where
     grant-same : (room : ℕ) → grantOf T sender m room ≡ grantOf U sender m room
     grant-same room =
-        grant-sized T sender m room p q
+        grant-sized T sender m room p q w
         ∙ then-same (askOf m) refl (λ a e. allowed-same room a (λ c n. agree c (a, e, n)))
-        ∙ sym (grant-sized U sender m room p′ q′)
+        ∙ sym (grant-sized U sender m room p′ q′ w′)
 
     module _ (buffer : List ℕ) where
       -- the answer is from the named rows alone

@@ -13,8 +13,9 @@ use Rattle.octets.specs.Choice.{if_then_else_}
 use Rattle.octets.proofs.Choice.{decided, true-false}
 use Rattle.hub.specs.declared.Search.{Search}
 use Rattle.hub.specs.declared.Search.the-variants.{At, Nowhere}
-use Rattle.hub.specs.Rights.{isMine, firstNot, firstForeign, isFound, IsFirst}
-use Rattle.hub.specs.Names.{Mine}
+use Rattle.hub.specs.Rights.{isMine, hasRight, firstNot, firstForeign, isFound, IsFirst}
+use Rattle.hub.specs.Tables.{Tables}
+use Rattle.hub.specs.Names.{Mine, HasRight}
 
 -- ---- the sender's
 pub mine-is : (owners : List ℕ) (sender circuit : ℕ) → isMine owners sender circuit ≡ true → Mine owners sender circuit
@@ -30,6 +31,21 @@ not-mine owners sender circuit e = go (eqb sender 0) refl e
     go : (b : Bool) → eqb sender 0 ≡ b → (if b then false else eqb (octet owners circuit) sender) ≡ false → (octet owners circuit ≡ sender → ⊥) ⊎ (sender ≡ 0)
     go true p h = inr (eqb-true sender 0 p)
     go false p h = inl (eqb-false _ _ h)
+
+-- the sender has a right exactly where it owns the circuit or helps it
+pub right-is : (T : Tables) (sender circuit : ℕ) → hasRight (T .owners) (T .helpers) sender circuit ≡ true → HasRight T sender circuit
+right-is T sender circuit e = go (isMine (T .owners) sender circuit) refl e
+  where
+    go : (b : Bool) → isMine (T .owners) sender circuit ≡ b → (if b then true else isMine (T .helpers) sender circuit) ≡ true → HasRight T sender circuit
+    go true p h = inl (mine-is (T .owners) sender circuit p)
+    go false p h = inr (mine-is (T .helpers) sender circuit h)
+
+pub not-right : (T : Tables) (sender circuit : ℕ) → hasRight (T .owners) (T .helpers) sender circuit ≡ false → ((octet (T .owners) circuit ≡ sender → ⊥) × (octet (T .helpers) circuit ≡ sender → ⊥)) ⊎ (sender ≡ 0)
+not-right T sender circuit e = go (isMine (T .owners) sender circuit) refl e
+  where
+    go : (b : Bool) → isMine (T .owners) sender circuit ≡ b → (if b then true else isMine (T .helpers) sender circuit) ≡ false → ((octet (T .owners) circuit ≡ sender → ⊥) × (octet (T .helpers) circuit ≡ sender → ⊥)) ⊎ (sender ≡ 0)
+    go true p h = absurd (true-false {t = true} refl h)
+    go false p h = ⊎-elim (λ o. ⊎-elim (λ k. inl (o, k)) (λ z. inr z) (not-mine (T .helpers) sender circuit h)) (λ z. inr z) (not-mine (T .owners) sender circuit p)
 
 -- ---- a search
 module _ (good : ℕ → Bool) where
@@ -103,6 +119,9 @@ module _ (good : ℕ → Bool) where
         go (At c) m h = (c, m)
         go Nowhere m h = absurd (true-false {t = false} h refl)
 
+    pub none-found : ((j : ℕ) → circuit ≤ j → j < circuit + n → good j ≡ true) → isFound (firstNot good circuit n) ≡ false
+    none-found all = ap isFound (search-nowhere .1 all)
+
     pub found-none : isFound (firstNot good circuit n) ≡ false → (j : ℕ) → circuit ≤ j → j < circuit + n → good j ≡ true
     found-none e = go (firstNot good circuit n) (means circuit n) e
       where
@@ -110,9 +129,9 @@ module _ (good : ℕ → Bool) where
         go (At c) m h = absurd (true-false {t = true} refl h)
         go Nowhere m h = m
 
--- the search for a foreign circuit ends at the first that is not the sender's: it is not, and all before it are
-pub first-foreign-exactly : (owners : List ℕ) (sender circuit n c : ℕ) → (firstForeign owners sender circuit n ≡ At c) ↔ IsFirst (isMine owners sender) circuit n c
-first-foreign-exactly owners sender circuit n c = search-exactly (isMine owners sender) circuit n c
+-- the search for a foreign circuit ends at the first on which the sender has no right: it has none there, and has one on all before it
+pub first-foreign-exactly : (owners helpers : List ℕ) (sender circuit n c : ℕ) → (firstForeign owners helpers sender circuit n ≡ At c) ↔ IsFirst (hasRight owners helpers sender) circuit n c
+first-foreign-exactly owners helpers sender circuit n c = search-exactly (hasRight owners helpers sender) circuit n c
 
 -- the same tests on the span, the same answer
 pub search-same : (good other : ℕ → Bool) (circuit n : ℕ) → ((j : ℕ) → circuit ≤ j → j < circuit + n → good j ≡ other j) → firstNot good circuit n ≡ firstNot other circuit n

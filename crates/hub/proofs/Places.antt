@@ -18,7 +18,7 @@ use Rattle.asks.proofs.Places.{ask-hands-on}
 use Rattle.hub.specs.Tables.{Tables, sized}
 use Rattle.hub.specs.Rights.{firstForeign, firstIllegal, isFound}
 use Rattle.hub.specs.Replies.{replyOf}
-use Rattle.hub.specs.Acts.{isTaken, permittedOf, roomed, allowedOf, grantOf, after, actOf}
+use Rattle.hub.specs.Acts.{isTaken, isUnhelpable, permittedOf, roomed, allowedOf, grantOf, after, actOf}
 use Rattle.hub.proofs.Given.{grant-sized}
 use Rattle.hub.proofs.Judged.{answered}
 
@@ -26,16 +26,17 @@ allowed-placeless : (T : Tables) (sender : ℕ) (m : List ℕ) (room : ℕ) (a :
 unfolding allowedOf permittedOf
 allowed-placeless T sender m room a =
     up-to-then _ (permittedOf T sender a) (roomed T m room)
-    (up-to-if _ (isFound (firstForeign (T .owners) sender (a .circuit) (a .range + 1))) (λ _. up-to-refused _ 19 0 (omega arith))
+    (up-to-if _ (isFound (firstForeign (T .owners) (T .helpers) sender (a .circuit) (a .range + 1))) (λ _. up-to-refused _ 19 0 (omega arith))
+    (λ _. up-to-if _ (isUnhelpable T sender a) (λ _. up-to-refused _ 22 0 (omega arith))
     (λ _. up-to-if _ (isFound (firstIllegal (T .states) (a .circuit) (a .range + 1))) (λ _. up-to-refused _ 20 0 (omega arith))
-    (λ _. up-to-if _ (isTaken (T .states) (a .act) (a .circuit)) (λ _. up-to-refused _ 21 0 (omega arith)) (λ _. up-to-accepted _ _))))
+    (λ _. up-to-if _ (isTaken (T .states) (a .act) (a .circuit)) (λ _. up-to-refused _ 21 0 (omega arith)) (λ _. up-to-accepted _ _)))))
     (λ b e. up-to-if _ (ltb room (length (replyOf (T .states) m b))) (λ _. up-to-refused _ 13 0 (omega arith)) (λ _. up-to-accepted _ _))
 
 module _ (T : Tables) (sender : ℕ) (m buffer : List ℕ) (n at : ℕ) where
   -- where the tables are of the right length the reader's refusal is the call's, octet and all
-  pub act-refused-too : length (T .states) ≡ 4096 → length (T .owners) ≡ 4096 → readOf m ≡ refused n at → actOf T sender m buffer ≡ after (refused n at) (T .states) buffer
+  pub act-refused-too : length (T .states) ≡ 4096 → length (T .owners) ≡ 4096 → length (T .helpers) ≡ 4096 → readOf m ≡ refused n at → actOf T sender m buffer ≡ after (refused n at) (T .states) buffer
   unfolding actOf askOf
-  act-refused-too p q e = rw (grant-sized T sender m (length buffer) p q, e)
+  act-refused-too p q h e = rw (grant-sized T sender m (length buffer) p q h, e)
 
   module _ (e : actOf T sender m buffer .answer ≡ refused n at) where
     -- and any other is about no octet

@@ -28,12 +28,15 @@ use Rattle.asks.specs.declared.Ask.{Ask}
 use Rattle.isup.specs.Types.{IAM, REL, RLC, RSC, BLO, UBL, BLA, UBA, GRS, CGB, CGU, CGBA, CGUA, GRA, CQM, CQR}
 use Rattle.asks.specs.Types.{typeOf}
 use Rattle.asks.specs.Asks.{rangeIn, blockKind, width, broken, oneAsk, rangeAsk, groupAsk, indicatorIn, askIn, bitAt, markOf}
-use Rattle.asks.proofs.Types.{for-type}
+use Rattle.asks.proofs.Types.{for-type, type-is}
+use Rattle.asks.proofs.Judged.{asked-names}
 use Rattle.octets.specs.Sum.{total}
 use Rattle.asks.proofs.Marks.{marks-counted}
 use Rattle.asks.proofs.Reading.{Asked, ask-as, range-rule, WholeGroup, whole-group}
 use Rattle.hub.specs.Tables.{Tables}
-use Rattle.hub.specs.Rights.{firstIllegal, isFound}
+use Rattle.hub.specs.Rights.{mayHelp, firstIllegal, isFound}
+use Rattle.hub.specs.Names.{Mine, HasRight}
+use Rattle.hub.specs.Faults.{NamedBy, Helpable}
 use Rattle.replies.specs.Replies.{statusGiven, statusLocked, statesFrom, rangeAndStatus, completion}
 use Rattle.replies.specs.Rules.{Marks, Locks, States}
 use Rattle.replies.proofs.Status.{status-marks, locks-shown, states-shown}
@@ -41,7 +44,8 @@ use Rattle.hub.specs.Rows.{rowsAfter}
 use Rattle.hub.specs.Replies.{statusIn, replyOf}
 use Rattle.hub.specs.Acts.{isTaken, actOf}
 use Rattle.hub.specs.Rules.{Changes, every, Answers, Acknowledges, Accepts}
-use Rattle.hub.proofs.Called.{Called, row-named, row-outside, call-accepted, reaches}
+use Rattle.hub.proofs.Called.{Called, row-named, row-outside, call-accepted, reaches, names-right, names-mine}
+use Rattle.hub.proofs.Judged.{help-by}
 use Rattle.hub.proofs.Meaning.{found-none}
 use Rattle.hub.proofs.Writing.{rows-queried}
 
@@ -292,3 +296,18 @@ module _ (T : Tables) (sender : ℕ) (m buffer : List ℕ) (x : Message) (n : �
   -- and marks 32 circuits at the most, of those that it names
   pub group-few : (x .kind ≡ CGB) ⊎ (x .kind ≡ CGU) → total (λ n. if markOf m (x .parts .first .from + 1) n then 1 else 0) 0 (rangeIn m (x .parts .first) + 1) ≤ 32
   group-few k = let w = group-whole k in omega (arith, w .few, marks-counted m (x .parts .first))
+
+  -- a named circuit passes only if the sender owns it or helps it
+  pub named-right : (c : ℕ) → NamedBy m x c → HasRight T sender c
+  named-right c w =
+      let q = asked-names m x (called .ask) (asked .act, asked .acts, asked .is) in
+      names-right T sender m buffer (called .ask) (called .allowed) c (omega (arith, q .0, w .0), omega (arith, q .0, q .1, w .1))
+
+  -- and where the type is not in the helpers' list, only if the sender owns it
+  pub named-owned : (Helpable m x → ⊥) → (c : ℕ) → NamedBy m x c → Mine (T .owners) sender c
+  named-owned out c w =
+      let q = asked-names m x (called .ask) (asked .act, asked .acts, asked .is) in
+      let h = help-by m x (asked .act) (type-is (x .kind) (asked .act) (asked .acts)) in
+      let no : mayHelp (called .ask .act) (called .ask .block) ≡ false =
+      ⊎-elim (λ t. absurd (out (h .0 (subst (λ (b : Ask). mayHelp (b .act) (b .block) ≡ true) (sym (asked .is)) t)))) (λ t. t) (decided (mayHelp (called .ask .act) (called .ask .block))) in
+      names-mine T sender m buffer (called .ask) (called .allowed) no c (omega (arith, q .0, w .0), omega (arith, q .0, q .1, w .1))

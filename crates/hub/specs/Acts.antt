@@ -1,5 +1,5 @@
 -- The hub, all of it: the answer, the states and the answer buffer afterwards, as one value.
--- Order: 16, the reader's, 17, 14, 18, 19, 20, 21, 13; all of them before anything is stored.
+-- Order: 16, the reader's, 17, 14, 18, 19, 22, 20, 21, 13; all of them before anything is stored.
 use Prim.Native.Nat.{ℕ, _+_}
 use mathlib.Core.Bool.{Bool, false, not}
 use mathlib.Core.List.{List}
@@ -14,7 +14,7 @@ use Rattle.rows.specs.declared.Act.the-variants.{Seize, Release, Reset, Block, 
 use Rattle.asks.specs.declared.Ask.{Ask}
 use Rattle.asks.specs.Asks.{askOf}
 use Rattle.hub.specs.Tables.{Tables, sized}
-use Rattle.hub.specs.Rights.{firstForeign, firstIllegal, isFound}
+use Rattle.hub.specs.Rights.{mayHelp, firstForeign, firstUnowned, firstIllegal, isFound}
 use Rattle.hub.specs.Rows.{rowsAfter}
 use Rattle.hub.specs.Replies.{replyOf}
 
@@ -30,10 +30,17 @@ isTaken states BlockGroup circuit = false
 isTaken states UnblockGroup circuit = false
 isTaken states Query circuit = false
 
--- 19 where a named circuit is not the sender's, 20 where a named circuit's row is not legal, 21 for IAM on a circuit that is busy or blocked
+-- a named circuit is only helped by the sender, and the act is none that a helper may do
+unfoldable pub isUnhelpable : Tables → ℕ → Ask → Bool
+isUnhelpable T sender a =
+    if mayHelp (a .act) (a .block) then false
+    else isFound (firstUnowned (T .owners) sender (a .circuit) (a .range + 1))
+
+-- 19 where the sender has no right on a named circuit, 22 where it only helps one and a helper may not do the act, 20 where a named circuit's row is not legal, 21 for IAM on a circuit that is busy or blocked
 unfoldable pub permittedOf : Tables → ℕ → Ask → Answer Ask
 permittedOf T sender a =
-    if isFound (firstForeign (T .owners) sender (a .circuit) (a .range + 1)) then refused 19 0
+    if isFound (firstForeign (T .owners) (T .helpers) sender (a .circuit) (a .range + 1)) then refused 19 0
+    else if isUnhelpable T sender a then refused 22 0
     else if isFound (firstIllegal (T .states) (a .circuit) (a .range + 1)) then refused 20 0
     else if isTaken (T .states) (a .act) (a .circuit) then refused 21 0
     else accepted a
@@ -42,7 +49,7 @@ permittedOf T sender a =
 abbrev pub roomed : Tables → List ℕ → ℕ → Ask → Answer Ask
 roomed T m room a = if ltb room (length (replyOf (T .states) m a)) then refused 13 0 else accepted a
 
--- 19, 20, 21, then 13
+-- 19, 22, 20, 21, then 13
 unfoldable pub allowedOf : Tables → ℕ → List ℕ → ℕ → Ask → Answer Ask
 allowedOf T sender m room a = permittedOf T sender a then roomed T m room
 

@@ -1,6 +1,8 @@
--- A list of calls on one table, over ownership that does not change: messages that are heard, and desk calls.
+-- A list of calls on one table, over owners and helpers that do not change: messages that are heard, and desk calls.
 use Prim.Native.Nat.{ℕ, _/_, _%_}
-use mathlib.Core.Bool.{Bool, false}
+use mathlib.Core.Path.{_≡_}
+use mathlib.Core.Bool.{Bool, true, false}
+use mathlib.Core.Logic.{_⊎_}
 use mathlib.Core.List.{List, [], _∷_}
 use lib.Dec.{eqb, ltb}
 use lib.ListN.{length}
@@ -33,21 +35,29 @@ pub record Reply : Type 0 where
   pub buffer : List ℕ
 
 -- what is done, each by the definition that `act` and `desk_call` are proved to meet
-abbrev pub doneBy : List ℕ → Event → List ℕ → List ℕ → After
-doneBy owners (heard sender message) buffer states = actOf (tables states owners) sender message buffer
-doneBy owners (ours circuit set) buffer states = deskOf states circuit set buffer
+abbrev pub doneBy : List ℕ → List ℕ → Event → List ℕ → List ℕ → After
+doneBy owners helpers (heard sender message) buffer states = actOf (tables states owners helpers) sender message buffer
+doneBy owners helpers (ours circuit set) buffer states = deskOf states circuit set buffer
 
 -- the answer and the buffer of it
 abbrev pub replied : After → Reply
 replied r = record { answer = r .answer; buffer = r .buffer }
 
--- a party has a right on the circuits that it owns, and party 0 on those that nobody owns; above 4095 there is no circuit
-abbrev pub holdsOf : List ℕ → ℕ → ℕ → Bool
-holdsOf owners q i = if ltb 4095 i then false else eqb (octet owners i) q
+-- a party has a right on the circuits that it owns or helps, and party 0 on those that nobody owns; 0 helps nothing, and above 4095 there is no circuit
+abbrev pub holdsOf : List ℕ → List ℕ → ℕ → ℕ → Bool
+holdsOf owners helpers q i =
+    if ltb 4095 i then false
+    else if eqb (octet owners i) q then true
+    else if eqb q 0 then false
+    else eqb (octet helpers i) q
+
+-- the same as a statement: a party owns the circuit (party 0 where nobody does), or helps it
+abbrev pub RightOf : List ℕ → List ℕ → ℕ → ℕ → Type 0
+RightOf owners helpers q i = (octet owners i ≡ q) ⊎ ((octet helpers i ≡ q) × (q ≡ 0 → ⊥))
 
 -- the hub
-abbrev pub hub : List ℕ → Calls
-hub owners =
+abbrev pub hub : List ℕ → List ℕ → Calls
+hub owners helpers =
     record {
       State = List ℕ;
       Row = ℕ;
@@ -56,9 +66,9 @@ hub owners =
       sizes = λ s. length s ∷ [];
       row = λ s i. octet s i;
       party = λ c. partyOf owners (c .asks);
-      holds = holdsOf owners;
-      answer = λ c s. replied (doneBy owners (c .asks) (c .buffer) s);
-      after = λ c s. doneBy owners (c .asks) (c .buffer) s .states;
+      holds = holdsOf owners helpers;
+      answer = λ c s. replied (doneBy owners helpers (c .asks) (c .buffer) s);
+      after = λ c s. doneBy owners helpers (c .asks) (c .buffer) s .states;
     }
 
 -- ---- the other reading of 'each with its own answer buffer': one buffer for each party, lent again for each of its calls
@@ -80,12 +90,12 @@ abbrev pub standingAt : Standing → ℕ → List ℕ
 standingAt s j = if eqb (j % 2) 0 then octet (s .rows) (j / 2) ∷ [] else s .buffers (j / 2)
 
 -- a party has a right on the rows that it holds and on its own buffer
-abbrev pub standsOf : List ℕ → ℕ → ℕ → Bool
-standsOf owners q j = if eqb (j % 2) 0 then holdsOf owners q (j / 2) else eqb (j / 2) q
+abbrev pub standsOf : List ℕ → List ℕ → ℕ → ℕ → Bool
+standsOf owners helpers q j = if eqb (j % 2) 0 then holdsOf owners helpers q (j / 2) else eqb (j / 2) q
 
 -- the same hub, with its buffers kept
-abbrev pub hubKeeping : List ℕ → Calls
-hubKeeping owners =
+abbrev pub hubKeeping : List ℕ → List ℕ → Calls
+hubKeeping owners helpers =
     record {
       State = Standing;
       Row = List ℕ;
@@ -94,7 +104,7 @@ hubKeeping owners =
       sizes = λ s. length (s .rows) ∷ [];
       row = standingAt;
       party = partyOf owners;
-      holds = standsOf owners;
-      answer = λ a s. hub owners .answer (lending owners s a) (s .rows);
-      after = λ a s. record { rows = hub owners .after (lending owners s a) (s .rows); buffers = lentAgain (s .buffers) (partyOf owners a) (hub owners .answer (lending owners s a) (s .rows) .buffer) };
+      holds = standsOf owners helpers;
+      answer = λ a s. hub owners helpers .answer (lending owners s a) (s .rows);
+      after = λ a s. record { rows = hub owners helpers .after (lending owners s a) (s .rows); buffers = lentAgain (s .buffers) (partyOf owners a) (hub owners helpers .answer (lending owners s a) (s .rows) .buffer) };
     }

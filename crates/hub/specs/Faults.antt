@@ -1,4 +1,4 @@
--- The hub's faults, each in the paper's words, in the paper's order: 16, the reader's, 17, 14, 18, 19, 20, 21, 13.
+-- The hub's faults, each in the paper's words, in the paper's order: 16, the reader's, 17, 14, 18, 19, 22, 20, 21, 13.
 use Prim.Native.Nat.{ℕ, _+_, _≤_, _<_}
 use mathlib.Core.Path.{_≡_}
 use mathlib.Core.List.{List, [], _∷_, _++_}
@@ -7,26 +7,34 @@ use lib.Dec.{eqb}
 use lib.ListN.{length}
 use Rattle.octets.specs.Octet.{octet}
 use Rattle.octets.specs.Choice.{if_then_else_}
-use Rattle.octets.specs.Among.{among}
+use Rattle.octets.specs.Among.{among, OneOf}
 use Rattle.octets.specs.Faults.{Fault, fault}
 use Rattle.isup.specs.declared.Message.{Message}
 use Rattle.rows.specs.Rows.{Legal, local}
-use Rattle.isup.specs.Types.{IAM, REL, RSC, BLO, UBL, GRS, CQM}
-use Rattle.asks.specs.Asks.{width}
+use Rattle.isup.specs.Types.{IAM, REL, RSC, BLO, UBL, GRS, CGB, CGU, CQM}
+use Rattle.asks.specs.Asks.{blockKind, indicatorIn, width}
 use Rattle.asks.specs.Faults.{Reads, rangeGiven, askFaults}
 use Rattle.hub.specs.Tables.{Tables}
 
--- 16: state or ownership table not exactly 4096 octets
+-- 16: a table not exactly 4096 octets
 abbrev pub WrongTables : Tables → Type 0
-WrongTables T = (length (T .states) ≡ 4096 → ⊥) ⊎ (length (T .owners) ≡ 4096 → ⊥)
+WrongTables T = (length (T .states) ≡ 4096 → ⊥) ⊎ ((length (T .owners) ≡ 4096 → ⊥) ⊎ (length (T .helpers) ≡ 4096 → ⊥))
 
 -- the message names the circuit: it is one of m to m+r, for the range r that the message gives
 abbrev pub NamedBy : List ℕ → Message → ℕ → Type 0
 NamedBy m x c = (x .circuit ≤ c) × (c ≤ x .circuit + rangeGiven m x)
 
--- 19: a named circuit is not the sender's, or the sender is 0
-abbrev pub Foreign : List ℕ → ℕ → List ℕ → Message → Type 0
-Foreign owners sender m x = ((c : ℕ) × NamedBy m x c × (octet owners c ≡ sender → ⊥)) ⊎ (sender ≡ 0)
+-- 19: neither right is held on a named circuit, or the sender is 0
+abbrev pub Foreign : Tables → ℕ → List ℕ → Message → Type 0
+Foreign T sender m x = ((c : ℕ) × NamedBy m x c × (octet (T .owners) c ≡ sender → ⊥) × (octet (T .helpers) c ≡ sender → ⊥)) ⊎ (sender ≡ 0)
+
+-- what a helper may send: BLO, UBL, CQM, and CGB and CGU for maintenance
+abbrev pub Helpable : List ℕ → Message → Type 0
+Helpable m x = OneOf (x .kind) (BLO ∷ UBL ∷ CQM ∷ []) ⊎ (OneOf (x .kind) (CGB ∷ CGU ∷ []) × (blockKind (indicatorIn m x) ≡ 0))
+
+-- 22: a named circuit is only helped, and the type is not in the list
+abbrev pub OnlyHelped : Tables → ℕ → List ℕ → Message → Type 0
+OnlyHelped T sender m x = (Helpable m x → ⊥) × ((c : ℕ) × NamedBy m x c × (octet (T .owners) c ≡ sender → ⊥))
 
 -- 20: a named circuit's state octet is not legal
 abbrev pub Illegal : List ℕ → List ℕ → Message → Type 0
@@ -56,7 +64,8 @@ abbrev pub actFaults : Tables → ℕ → List ℕ → ℕ → List Fault
 actFaults T sender m room =
     fault 16 0 (WrongTables T)
     ∷ (askFaults m
-    ++ (fault 19 0 (Reads m (Foreign (T .owners) sender m))
+    ++ (fault 19 0 (Reads m (Foreign T sender m))
+    ∷ fault 22 0 (Reads m (OnlyHelped T sender m))
     ∷ fault 20 0 (Reads m (Illegal (T .states) m))
     ∷ fault 21 0 (Reads m (Taken (T .states)))
     ∷ fault 13 0 (Reads m (NoRoom (T .states) m room))

@@ -1,15 +1,21 @@
--- Which circuits a message names, and what it is for a circuit to be the sender's.
+-- Which circuits a message names, and what it is for a sender to have a right on a circuit.
 use Prim.Native.Nat.{ℕ, _+_, _≤_}
 use mathlib.Core.Path.{_≡_}
 use mathlib.Core.List.{List}
+use mathlib.Core.Logic.{_⊎_}
 use Rattle.octets.specs.Octet.{octet}
 use Rattle.octets.specs.Answer.{accepted}
 use Rattle.asks.specs.declared.Ask.{Ask}
+use Rattle.hub.specs.Tables.{Tables}
 use Rattle.asks.specs.Asks.{askOf}
 
--- the circuit is the sender's
+-- the table names the sender for the circuit
 abbrev pub Mine : List ℕ → ℕ → ℕ → Type 0
-Mine owners sender circuit = (octet owners circuit ≡ sender) × (sender ≡ 0 → ⊥)
+Mine table sender circuit = (octet table circuit ≡ sender) × (sender ≡ 0 → ⊥)
+
+-- the sender has a right on the circuit: it owns it or helps it
+abbrev pub HasRight : Tables → ℕ → ℕ → Type 0
+HasRight T sender circuit = Mine (T .owners) sender circuit ⊎ Mine (T .helpers) sender circuit
 
 -- all of m to m+r are named, marked or not
 abbrev pub Named : Ask → ℕ → Type 0

@@ -1,4 +1,4 @@
-// The hub: nine types act on one shared table of circuits, and nobody's message touches what another owns; and the desk blocks circuits from our side.
+// The hub: nine types act on one shared table of circuits, and a message touches only what its sender owns or helps; and the desk blocks circuits from our side.
 ghost use mathlib.Core.Path.{_≡_};
 ghost use mathlib.Core.Logic.{_⊎_};
 ghost use Prim.Native.Nat.{_+_, _/_, _≤_, _<_};
@@ -6,10 +6,11 @@ ghost use lib.ListN.{length};
 ghost use Rattle.asks.specs.Asks.{Sound, markOf};
 ghost use Rattle.asks.specs.Told.{verdictTold};
 ghost use Rattle.hub.specs.Tables.{tables};
-ghost use Rattle.hub.specs.Rights.{isMine, isFound, firstForeign, firstIllegal};
+ghost use Rattle.hub.specs.Rights.{isMine, hasRight, mayHelp, isFound, firstForeign, firstUnowned, firstIllegal};
 ghost use Rattle.hub.specs.Rows.{rowsAfter};
 ghost use Rattle.hub.specs.Replies.{statusIn, replyOf};
 ghost use Rattle.hub.specs.Acts.{isTaken, permittedOf, judgedOf, after, actOf};
+ghost use Rattle.hub.specs.Inside.{againstOf};
 ghost use Rattle.hub.specs.Desk.{deskOf};
 ghost use Rattle.octets.specs.Filled.{leaving};
 ghost use Rattle.octets.specs.Told.{writtenTold};
@@ -26,21 +27,51 @@ enum Search {
     Nowhere,
 }
 
-// Whether the circuit is the sender's.
-fn mine(owners: &[u8], sender: u32, circuit: usize) -> bool
-    requires { ⌜ circuit < length (now owners) ⌝ }
-    ensures { λ r. ⌜ r ≡ isMine (now (owners .entry)) sender circuit ⌝ }
+// Whether a table of owners, or of helpers, names the sender for the circuit.
+fn mine(table: &[u8], sender: u32, circuit: usize) -> bool
+    requires { ⌜ circuit < length (now table) ⌝ }
+    ensures { λ r. ⌜ r ≡ isMine (now (table .entry)) sender circuit ⌝ }
 {
     if sender == 0 {
         return false;
     }
-    owners[circuit] as u32 == sender
+    table[circuit] as u32 == sender
 }
 
-// The first circuit of a group that is not the sender's ends the search.
-fn first_foreign(owners: &[u8], sender: u32, first: usize, range: usize) -> Search
+// Whether the sender owns the circuit or helps it.
+fn right(owners: &[u8], helpers: &[u8], sender: u32, circuit: usize) -> bool
+    requires { ⌜ (circuit < length (now owners)) × (circuit < length (now helpers)) ⌝ }
+    ensures { λ r. ⌜ r ≡ hasRight (now (owners .entry)) (now (helpers .entry)) sender circuit ⌝ }
+{
+    if mine(owners, sender, circuit) {
+        return true;
+    }
+    mine(helpers, sender, circuit)
+}
+
+// The first circuit of a group on which the sender has no right ends the search.
+fn first_foreign(owners: &[u8], helpers: &[u8], sender: u32, first: usize, range: usize) -> Search
+    requires { ⌜ (length (now owners) ≡ 4096) × (length (now helpers) ≡ 4096) × (first + range ≤ 4095) ⌝ }
+    ensures { λ r. ⌜ r ≡ firstForeign (now (owners .entry)) (now (helpers .entry)) sender first (range + 1) ⌝ }
+{
+    let last = first + range;
+    let mut circuit = first;
+    let found = loop {
+        if circuit > last {
+            break Search::Nowhere;
+        }
+        if !right(owners, helpers, sender, circuit) {
+            break Search::At(circuit);
+        }
+        circuit += 1;
+    };
+    found
+}
+
+// The first circuit of a group that the sender does not own ends the search.
+fn first_unowned(owners: &[u8], sender: u32, first: usize, range: usize) -> Search
     requires { ⌜ (length (now owners) ≡ 4096) × (first + range ≤ 4095) ⌝ }
-    ensures { λ r. ⌜ r ≡ firstForeign (now (owners .entry)) sender first (range + 1) ⌝ }
+    ensures { λ r. ⌜ r ≡ firstUnowned (now (owners .entry)) sender first (range + 1) ⌝ }
 {
     let last = first + range;
     let mut circuit = first;
@@ -54,6 +85,23 @@ fn first_foreign(owners: &[u8], sender: u32, first: usize, range: usize) -> Sear
         circuit += 1;
     };
     found
+}
+
+// Whether a helper may do the act: BLO, UBL, CQM, and CGB and CGU for maintenance.
+fn helpable(act: Act, block: u8) -> bool
+    ensures { λ r. ⌜ r ≡ mayHelp act block ⌝ }
+{
+    match act {
+        Act::Seize => false,
+        Act::Release => false,
+        Act::Reset => false,
+        Act::Block => true,
+        Act::Unblock => true,
+        Act::ResetGroup => false,
+        Act::BlockGroup => block == 0,
+        Act::UnblockGroup => block == 0,
+        Act::Query => true,
+    }
 }
 
 // The first circuit of a group whose row is not legal ends the search.
@@ -169,15 +217,36 @@ fn taken(states: &[u8], act: Act, circuit: usize) -> bool
     }
 }
 
-// Whether what is asked is permitted: 19, 20, then 21.
-fn permit(states: &[u8], owners: &[u8], sender: u32, ask: Ask) -> Verdict
-    requires { ⌜ (length (now states) ≡ 4096) × (length (now owners) ≡ 4096) × (ask .circuit + ask .range ≤ 4095) ⌝ }
-    ensures { λ r. ⌜ verdictTold r ≡ permittedOf (tables (now (states .entry)) (now (owners .entry))) sender ask ⌝ }
+// 19 or 22 against what is asked, 0 where neither stands against it. Where the sender owns every named circuit the helpers are not looked at.
+fn against(owners: &[u8], helpers: &[u8], sender: u32, ask: Ask) -> u8
+    requires { ⌜ (length (now owners) ≡ 4096) × (length (now helpers) ≡ 4096) × (ask .circuit + ask .range ≤ 4095) ⌝ }
+    ensures { λ r. ⌜ r ≡ againstOf (now (owners .entry)) (now (helpers .entry)) sender ask ⌝ }
 {
     let circuit = ask.circuit;
     let range = ask.range;
-    if found(first_foreign(owners, sender, circuit, range)) {
-        return Verdict::Refused(19, 0);
+    if !found(first_unowned(owners, sender, circuit, range)) {
+        return 0;
+    }
+    if found(first_foreign(owners, helpers, sender, circuit, range)) {
+        return 19;
+    }
+    let act = ask.act;
+    if helpable(act, ask.block) {
+        return 0;
+    }
+    22
+}
+
+// Whether what is asked is permitted: 19, 22, 20, then 21.
+fn permit(states: &[u8], owners: &[u8], helpers: &[u8], sender: u32, ask: Ask) -> Verdict
+    requires { ⌜ (length (now states) ≡ 4096) × (length (now owners) ≡ 4096) × (length (now helpers) ≡ 4096) × (ask .circuit + ask .range ≤ 4095) ⌝ }
+    ensures { λ r. ⌜ verdictTold r ≡ permittedOf (tables (now (states .entry)) (now (owners .entry)) (now (helpers .entry))) sender ask ⌝ }
+{
+    let circuit = ask.circuit;
+    let range = ask.range;
+    let number = against(owners, helpers, sender, ask);
+    if number != 0 {
+        return Verdict::Refused(number, 0);
     }
     if found(first_illegal(states, circuit, range)) {
         return Verdict::Refused(20, 0);
@@ -189,9 +258,9 @@ fn permit(states: &[u8], owners: &[u8], sender: u32, ask: Ask) -> Verdict
     Verdict::Granted(ask)
 }
 
-// All that is looked at before the answer: 16, the reader's, 17, 14, 18, 19, 20, 21.
-fn judge(states: &[u8], owners: &[u8], sender: u32, message: &[u8]) -> Verdict
-    ensures { λ r. ⌜ verdictTold r ≡ judgedOf (tables (now (states .entry)) (now (owners .entry))) sender (now (message .entry)) ⌝ }
+// All that is looked at before the answer: 16, the reader's, 17, 14, 18, 19, 22, 20, 21.
+fn judge(states: &[u8], owners: &[u8], helpers: &[u8], sender: u32, message: &[u8]) -> Verdict
+    ensures { λ r. ⌜ verdictTold r ≡ judgedOf (tables (now (states .entry)) (now (owners .entry)) (now (helpers .entry))) sender (now (message .entry)) ⌝ }
 {
     if states.len() != CIRCUITS {
         return Verdict::Refused(16, 0);
@@ -199,9 +268,12 @@ fn judge(states: &[u8], owners: &[u8], sender: u32, message: &[u8]) -> Verdict
     if owners.len() != CIRCUITS {
         return Verdict::Refused(16, 0);
     }
+    if helpers.len() != CIRCUITS {
+        return Verdict::Refused(16, 0);
+    }
     match asks::decode(message) {
         Verdict::Refused(n, at) => Verdict::Refused(n, at),
-        Verdict::Granted(ask) => permit(states, owners, sender, ask),
+        Verdict::Granted(ask) => permit(states, owners, helpers, sender, ask),
     }
 }
 
@@ -210,14 +282,15 @@ fn judge(states: &[u8], owners: &[u8], sender: u32, message: &[u8]) -> Verdict
 pub fn act(
     states: &mut [u8],
     owners: &[u8],
+    helpers: &[u8],
     sender: u32,
     message: &[u8],
     answer: &mut [u8],
 ) -> Written
     ensures { λ r. ⌜ after (writtenTold r) (now (states .exit)) (now (answer .exit)) ≡
-        actOf (tables (now (states .entry)) (now (owners .entry))) sender (now (message .entry)) (now (answer .entry)) ⌝ }
+        actOf (tables (now (states .entry)) (now (owners .entry)) (now (helpers .entry))) sender (now (message .entry)) (now (answer .entry)) ⌝ }
 {
-    match judge(states, owners, sender, message) {
+    match judge(states, owners, helpers, sender, message) {
         Verdict::Refused(n, at) => Written::Refused(n, at),
         Verdict::Granted(ask) => match write_reply(states, message, ask, answer) {
             Written::Refused(n, at) => Written::Refused(n, at),

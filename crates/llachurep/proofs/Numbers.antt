@@ -67,7 +67,7 @@ number-write-from-one nature plan internal signals buffer = (λ _ _. omega arith
 -- the hub's
 pub act-from-one : (T : Tables) (sender : ℕ) (m : List ℕ) (room : ℕ) → FromOne (actFaults T sender m room)
 act-from-one T sender m room =
-    (λ _ _. omega arith, each-append AtLeastOne (askFaults m) _ (each-append AtLeastOne (readerFaults m) _ (reader-from-one m) (λ _ _. omega arith, (λ _ _. omega arith, (λ _ _. omega arith, tt)))) (λ _ _. omega arith, (λ _ _. omega arith, (λ _ _. omega arith, (λ _ _. omega arith, tt)))))
+    (λ _ _. omega arith, each-append AtLeastOne (askFaults m) _ (each-append AtLeastOne (readerFaults m) _ (reader-from-one m) (λ _ _. omega arith, (λ _ _. omega arith, (λ _ _. omega arith, tt)))) (λ _ _. omega arith, (λ _ _. omega arith, (λ _ _. omega arith, (λ _ _. omega arith, (λ _ _. omega arith, tt))))))
 
 -- the desk call's
 pub desk-from-one : (states : List ℕ) (circuit room : ℕ) → FromOne (deskFaults states circuit room)

@@ -177,19 +177,20 @@ pub extern "C" fn llachurep_number_write(
     written(number::write_number(nature, plan, internal, signals, out))
 }
 
-// A message from a sender. Accepted: how many octets the answer has, at the front of `answer`; the named rows of `states` change. Refused with 16, the reader's numbers and octets, 17, 14, 18, 19, 20, 21, 13.
+// A message from a sender. Accepted: how many octets the answer has, at the front of `answer`; the named rows of `states` change. Refused with 16, the reader's numbers and octets, 17, 14, 18, 19, 22, 20, 21, 13.
 #[no_mangle]
 pub extern "C" fn llachurep_act(
     states: &mut [u8],
     owners: &[u8],
+    helpers: &[u8],
     sender: u32,
     message: &[u8],
     answer: &mut [u8],
 ) -> u32
     ensures { λ r. ⌜ called r (now (states .exit)) (now (answer .exit)) ≡
-        calledBy (actOf (tables (now (states .entry)) (now (owners .entry))) sender (now (message .entry)) (now (answer .entry))) ⌝ }
+        calledBy (actOf (tables (now (states .entry)) (now (owners .entry)) (now (helpers .entry))) sender (now (message .entry)) (now (answer .entry))) ⌝ }
 {
-    written(hub::act(states, owners, sender, message, answer))
+    written(hub::act(states, owners, helpers, sender, message, answer))
 }
 
 // Our own block on a circuit: 0 for `set` clears it, anything else sets it. Accepted: 3, and the BLO or UBL to send stands at the front of `answer`; the circuit's row changes. Refused with 16, 9, 20, 13.

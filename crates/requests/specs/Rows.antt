@@ -33,57 +33,61 @@ DIAL = 6
 abbrev pub OWN : ℕ
 OWN = 7
 
+-- helper FIRST LAST SENDER
+abbrev pub HELPER : ℕ
+HELPER = 8
+
 -- set FIRST LAST STATE
 abbrev pub SET : ℕ
-SET = 8
+SET = 9
 
 -- rows FIRST LAST
 abbrev pub ROWS : ℕ
-ROWS = 9
+ROWS = 10
 
 -- act SENDER MESSAGE ROOM
 abbrev pub ACT : ℕ
-ACT = 10
+ACT = 11
 
 -- block CIRCUIT ROOM
 abbrev pub BLOCK : ℕ
-BLOCK = 11
+BLOCK = 12
 
 -- unblock CIRCUIT ROOM
 abbrev pub UNBLOCK : ℕ
-UNBLOCK = 12
+UNBLOCK = 13
 
 -- velocity BEARING SPEED
 abbrev pub VELOCITY : ℕ
-VELOCITY = 13
+VELOCITY = 14
 
 -- velocity BEARING SPEED VERTICAL MARK
 abbrev pub VELOCITY-LONG : ℕ
-VELOCITY-LONG = 14
+VELOCITY-LONG = 15
 
 -- velocity-back BEARING SPEED
 abbrev pub VELOCITY-BACK : ℕ
-VELOCITY-BACK = 15
+VELOCITY-BACK = 16
 
 -- velocity-back BEARING SPEED VERTICAL MARK
 abbrev pub VELOCITY-BACK-LONG : ℕ
-VELOCITY-BACK-LONG = 16
+VELOCITY-BACK-LONG = 17
 
 -- bicc-shape TYPE
 abbrev pub BICC-SHAPE : ℕ
-BICC-SHAPE = 17
+BICC-SHAPE = 18
 
 -- bicc-read MESSAGE
 abbrev pub BICC-READ : ℕ
-BICC-READ = 18
+BICC-READ = 19
 
 -- bicc-write CODE TYPE FIXED FIRST SECOND OPTIONAL ROOM
 abbrev pub BICC-WRITE : ℕ
-BICC-WRITE = 19
+BICC-WRITE = 20
 
 -- bicc-compact MESSAGE ROOM
 abbrev pub BICC-COMPACT : ℕ
-BICC-COMPACT = 20
+BICC-COMPACT = 21
 
 -- a line that is no request
 abbrev pub BAD : ℕ

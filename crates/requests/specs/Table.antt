@@ -82,6 +82,7 @@ forms =
     ∷ row "number" "sr"
     ∷ row "dial" "nnnsr"
     ∷ row "own" "clv"
+    ∷ row "helper" "clv"
     ∷ row "set" "clv"
     ∷ row "rows" "cl"
     ∷ row "act" "nsr"

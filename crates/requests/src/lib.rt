@@ -47,44 +47,47 @@ pub const DIAL: usize = 6;
 // own FIRST LAST SENDER
 pub const OWN: usize = 7;
 
+// helper FIRST LAST SENDER
+pub const HELPER: usize = 8;
+
 // set FIRST LAST STATE
-pub const SET: usize = 8;
+pub const SET: usize = 9;
 
 // rows FIRST LAST
-pub const ROWS: usize = 9;
+pub const ROWS: usize = 10;
 
 // act SENDER MESSAGE ROOM
-pub const ACT: usize = 10;
+pub const ACT: usize = 11;
 
 // block CIRCUIT ROOM
-pub const BLOCK: usize = 11;
+pub const BLOCK: usize = 12;
 
 // unblock CIRCUIT ROOM
-pub const UNBLOCK: usize = 12;
+pub const UNBLOCK: usize = 13;
 
 // velocity BEARING SPEED
-pub const VELOCITY: usize = 13;
+pub const VELOCITY: usize = 14;
 
 // velocity BEARING SPEED VERTICAL MARK
-pub const VELOCITY_LONG: usize = 14;
+pub const VELOCITY_LONG: usize = 15;
 
 // velocity-back BEARING SPEED
-pub const VELOCITY_BACK: usize = 15;
+pub const VELOCITY_BACK: usize = 16;
 
 // velocity-back BEARING SPEED VERTICAL MARK
-pub const VELOCITY_BACK_LONG: usize = 16;
+pub const VELOCITY_BACK_LONG: usize = 17;
 
 // bicc-shape TYPE
-pub const BICC_SHAPE: usize = 17;
+pub const BICC_SHAPE: usize = 18;
 
 // bicc-read MESSAGE
-pub const BICC_READ: usize = 18;
+pub const BICC_READ: usize = 19;
 
 // bicc-write CODE TYPE FIXED FIRST SECOND OPTIONAL ROOM
-pub const BICC_WRITE: usize = 19;
+pub const BICC_WRITE: usize = 20;
 
 // bicc-compact MESSAGE ROOM
-pub const BICC_COMPACT: usize = 20;
+pub const BICC_COMPACT: usize = 21;
 
 // A line that is no request.
 pub const BAD: usize = 255;
@@ -378,6 +381,12 @@ fn row_of(key: u64) -> Row
         // own clv
         11635 => Row {
             which: OWN,
+            letters: 0x766c63,
+            longer: 0,
+        },
+        // helper clv
+        313220692 => Row {
+            which: HELPER,
             letters: 0x766c63,
             longer: 0,
         },

@@ -15,17 +15,17 @@ use Rattle.asks.specs.Types.{actFor}
 use Rattle.octets.specs.Sum.{total}
 use Rattle.marks.specs.Marks.{marksIn, statusOctet, bitsIn, lockedBits}
 use Rattle.asks.specs.Asks.{brokenRange, brokenGroup, askedIn, askOf, bitAt, markOf}
-use Rattle.hub.specs.Rights.{firstNot}
+use Rattle.hub.specs.Rights.{firstNot, mayHelp}
 use Rattle.hub.specs.Replies.{statusIn, replyOf}
-use Rattle.hub.specs.Acts.{permittedOf, allowedOf, grantOf, actOf}
+use Rattle.hub.specs.Acts.{isUnhelpable, permittedOf, allowedOf, grantOf, actOf}
 use Rattle.samples.specs.Samples.{paperRows, AllHold, ours, OursHold}
 
 -- the paper's twelve
 pub samples-hold : AllHold paperRows
-unfolding total marksIn stepAt stops stopFrom runFrom isRun variableAt optionalAt variableSlot optionalSlot sharesOf judged held containerOf partsOf pointers ahead variables runPointer closedRun formOf unfitOf marks exceeds writtenOf shapeOf readOf writeIn compactIn brokenRange brokenGroup actFor askedIn askOf bitAt markOf isLegal firstNot applied blockedRow unblockedRow changedRow statusOctet bitsIn lockedBits statusIn replyOf permittedOf allowedOf grantOf actOf halves signalsIn
+unfolding total marksIn stepAt stops stopFrom runFrom isRun variableAt optionalAt variableSlot optionalSlot sharesOf judged held containerOf partsOf pointers ahead variables runPointer closedRun formOf unfitOf marks exceeds writtenOf shapeOf readOf writeIn compactIn brokenRange brokenGroup actFor askedIn askOf bitAt markOf isLegal firstNot applied blockedRow unblockedRow changedRow statusOctet bitsIn lockedBits statusIn replyOf mayHelp isUnhelpable permittedOf allowedOf grantOf actOf halves signalsIn
 samples-hold = (refl, (refl, (refl, (refl, (refl, (refl, (refl, (refl, (refl, (refl, (refl, (refl, tt))))))))))))
 
 -- our own, every type and kind of the hub
 pub ours-hold : OursHold ours
-unfolding total marksIn stepAt stops stopFrom runFrom isRun variableAt optionalAt variableSlot optionalSlot sharesOf judged held containerOf partsOf pointers ahead variables runPointer closedRun formOf unfitOf marks exceeds writtenOf shapeOf readOf writeIn compactIn brokenRange brokenGroup actFor askedIn askOf bitAt markOf isLegal firstNot applied blockedRow unblockedRow changedRow statusOctet bitsIn lockedBits statusIn replyOf permittedOf allowedOf grantOf actOf halves signalsIn
+unfolding total marksIn stepAt stops stopFrom runFrom isRun variableAt optionalAt variableSlot optionalSlot sharesOf judged held containerOf partsOf pointers ahead variables runPointer closedRun formOf unfitOf marks exceeds writtenOf shapeOf readOf writeIn compactIn brokenRange brokenGroup actFor askedIn askOf bitAt markOf isLegal firstNot applied blockedRow unblockedRow changedRow statusOctet bitsIn lockedBits statusIn replyOf mayHelp isUnhelpable permittedOf allowedOf grantOf actOf halves signalsIn
 ours-hold = (refl, (refl, (refl, (refl, (refl, (refl, (refl, (refl, (refl, (refl, (refl, (refl, (refl, (refl, (refl, (refl, tt))))))))))))))))

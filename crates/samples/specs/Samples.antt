@@ -1,5 +1,5 @@
 -- The sample messages that are proved together: the paper's, one list of octets and outcomes, and a list of our own with every type and kind that the hub acts on.
--- Where the hub is meant, sender 1 owns every circuit.
+-- Where the hub is meant, sender 1 owns every circuit, and there are no helpers.
 use Prim.Native.Nat.{ℕ, zero, suc, _+_}
 use mathlib.Core.Path.{_≡_}
 use mathlib.Core.List.{List, [], _∷_}
@@ -34,7 +34,7 @@ pub data Outcome : Type 0 where
 
 -- a call on rows that are all that octet, with room enough
 abbrev pub hubOn : ℕ → List ℕ → After
-hubOn row m = actOf (tables (replicate 4096 row) (replicate 4096 1)) 1 m (replicate 268 0)
+hubOn row m = actOf (tables (replicate 4096 row) (replicate 4096 1) (replicate 4096 0)) 1 m (replicate 268 0)
 
 -- the answer's octets, or the number
 abbrev pub answered : After → Answer (List ℕ)

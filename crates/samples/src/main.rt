@@ -89,17 +89,18 @@ fn number_of(count: usize) -> u32 {
     count as u32
 }
 
-// Puts what the hub makes of a message, every row 0 before and every circuit the sender's; answers the next place.
+// Puts what the hub makes of a message, every row 0 before, every circuit the sender's and nobody's help; answers the next place.
 fn put_acted(
     message: &[u8],
     states: &mut [u8],
     owners: &[u8],
+    helpers: &[u8],
     answer: &mut [u8],
     line: &mut [u8],
     at: usize,
 ) -> usize {
     fill(states, 0);
-    match hub::act(states, owners, 1, message, answer) {
+    match hub::act(states, owners, helpers, 1, message, answer) {
         Written::Refused(n, place) => put_fault(n, place, line, at),
         Written::Octets(n) => {
             let next = put_shown(b" answer ", front(answer, n), line, at);
@@ -181,11 +182,12 @@ fn show_acted(
     message: &[u8],
     states: &mut [u8],
     owners: &[u8],
+    helpers: &[u8],
     answer: &mut [u8],
     line: &mut [u8],
 ) {
     let at = printing::put_octets(message, line, 0);
-    let end = put_acted(message, states, owners, answer, line, at);
+    let end = put_acted(message, states, owners, helpers, answer, line, at);
     write_line(line, end);
 }
 
@@ -210,14 +212,38 @@ fn show_found(message: &[u8], line: &mut [u8]) {
     write_line(line, end);
 }
 
-// Shows the paper's rows that the hub accepts or refuses itself.
-fn show_hub(states: &mut [u8], owners: &[u8], answer: &mut [u8], line: &mut [u8]) {
-    show_acted(b"\x05\x00\x17\x01\x01\x03", states, owners, answer, line);
-    show_acted(b"\x23\x01\x13", states, owners, answer, line);
+// Shows the paper's GRS and BLO.
+fn show_reset_and_block(
+    states: &mut [u8],
+    owners: &[u8],
+    helpers: &[u8],
+    answer: &mut [u8],
+    line: &mut [u8],
+) {
+    show_acted(
+        b"\x05\x00\x17\x01\x01\x03",
+        states,
+        owners,
+        helpers,
+        answer,
+        line,
+    );
+    show_acted(b"\x23\x01\x13", states, owners, helpers, answer, line);
+}
+
+// Shows the paper's CGB and REL.
+fn show_group_and_release(
+    states: &mut [u8],
+    owners: &[u8],
+    helpers: &[u8],
+    answer: &mut [u8],
+    line: &mut [u8],
+) {
     show_acted(
         b"\x08\x00\x18\x00\x01\x03\x09\x01\x02",
         states,
         owners,
+        helpers,
         answer,
         line,
     );
@@ -225,35 +251,75 @@ fn show_hub(states: &mut [u8], owners: &[u8], answer: &mut [u8], line: &mut [u8]
         b"\x01\x00\x0C\x02\x00\x02\x80\x90",
         states,
         owners,
+        helpers,
         answer,
         line,
     );
 }
 
-// Shows the paper's rows that the reader refuses.
-fn show_refused(states: &mut [u8], owners: &[u8], answer: &mut [u8], line: &mut [u8]) {
+// Shows the paper's rows with contents that pass the end and with a pointer that breaks the rule.
+fn show_past_the_end(
+    states: &mut [u8],
+    owners: &[u8],
+    helpers: &[u8],
+    answer: &mut [u8],
+    line: &mut [u8],
+) {
     show_acted(
         b"\x01\x00\x0C\x02\x00\x03\x80\x90",
         states,
         owners,
+        helpers,
         answer,
         line,
     );
-    show_acted(b"\x01\x00\x0C\x01\x00", states, owners, answer, line);
+    show_acted(
+        b"\x01\x00\x0C\x01\x00",
+        states,
+        owners,
+        helpers,
+        answer,
+        line,
+    );
+}
+
+// Shows the paper's rows with a shared octet and with a part that is not closed.
+fn show_shared(
+    states: &mut [u8],
+    owners: &[u8],
+    helpers: &[u8],
+    answer: &mut [u8],
+    line: &mut [u8],
+) {
     show_acted(
         b"\x01\x00\x0C\x02\x01\x01\x00\x00",
         states,
         owners,
+        helpers,
         answer,
         line,
     );
-    show_acted(b"\x01\x00\x09\x01", states, owners, answer, line);
+    show_acted(b"\x01\x00\x09\x01", states, owners, helpers, answer, line);
 }
 
 // Shows the paper's two rows at the end of the table.
-fn show_last(states: &mut [u8], owners: &[u8], answer: &mut [u8], line: &mut [u8]) {
-    show_acted(b"\xE0\x0F\x17\x01\x01\x1F", states, owners, answer, line);
-    show_acted(b"\xFF\x0F\x17\x01\x01\x01", states, owners, answer, line);
+fn show_last(states: &mut [u8], owners: &[u8], helpers: &[u8], answer: &mut [u8], line: &mut [u8]) {
+    show_acted(
+        b"\xE0\x0F\x17\x01\x01\x1F",
+        states,
+        owners,
+        helpers,
+        answer,
+        line,
+    );
+    show_acted(
+        b"\xFF\x0F\x17\x01\x01\x01",
+        states,
+        owners,
+        helpers,
+        answer,
+        line,
+    );
 }
 
 // Shows the paper's rows on a called number, a compact form and an optional parameter.
@@ -268,19 +334,62 @@ fn show_parts(answer: &mut [u8], line: &mut [u8]) {
     show_found(b"\x01\x00\x09\x01\x20\x01\x41", line);
 }
 
-// Shows all fourteen, in the paper's order.
-fn show_all(states: &mut [u8], owners: &[u8], answer: &mut [u8], line: &mut [u8]) {
-    show_hub(states, owners, answer, line);
+// Shows the paper's four rows that the hub accepts.
+fn show_accepted(
+    states: &mut [u8],
+    owners: &[u8],
+    helpers: &[u8],
+    answer: &mut [u8],
+    line: &mut [u8],
+) {
+    show_reset_and_block(states, owners, helpers, answer, line);
+    show_group_and_release(states, owners, helpers, answer, line);
+}
+
+// Shows the paper's four rows that the reader refuses.
+fn show_refused(
+    states: &mut [u8],
+    owners: &[u8],
+    helpers: &[u8],
+    answer: &mut [u8],
+    line: &mut [u8],
+) {
+    show_past_the_end(states, owners, helpers, answer, line);
+    show_shared(states, owners, helpers, answer, line);
+}
+
+// Shows the first eight, in the paper's order.
+fn show_first(
+    states: &mut [u8],
+    owners: &[u8],
+    helpers: &[u8],
+    answer: &mut [u8],
+    line: &mut [u8],
+) {
+    show_accepted(states, owners, helpers, answer, line);
     show_parts(answer, line);
-    show_refused(states, owners, answer, line);
-    show_last(states, owners, answer, line);
+}
+
+// Shows the other six.
+fn show_others(
+    states: &mut [u8],
+    owners: &[u8],
+    helpers: &[u8],
+    answer: &mut [u8],
+    line: &mut [u8],
+) {
+    show_refused(states, owners, helpers, answer, line);
+    show_last(states, owners, helpers, answer, line);
 }
 
 fn main() {
     let mut states = io::buffer();
     let mut owners = io::buffer();
+    let mut helpers = io::buffer();
     let mut answer = io::buffer();
     let mut line = io::buffer();
     fill(&mut owners, 1);
-    show_all(&mut states, &owners, &mut answer, &mut line);
+    fill(&mut helpers, 0);
+    show_first(&mut states, &owners, &helpers, &mut answer, &mut line);
+    show_others(&mut states, &owners, &helpers, &mut answer, &mut line);
 }

@@ -10,6 +10,6 @@ use Rattle.table_lines.specs.Tables.{left}
 pub left-same : {T U : Tables} {x y : Sheet} → T ≡ U → x ≡ y → left T x ≡ left U y
 left-same p q i = left (p i) (q i)
 
--- the same states and the same owners
-pub tables-same : {s t o p : List ℕ} → s ≡ t → o ≡ p → tables s o ≡ tables t p
-tables-same p q i = tables (p i) (q i)
+-- the same states, the same owners and the same helpers
+pub tables-same : {s t o p h k : List ℕ} → s ≡ t → o ≡ p → h ≡ k → tables s o h ≡ tables t p k
+tables-same p q r i = tables (p i) (q i) (r i)

@@ -1,4 +1,4 @@
--- What the requests of the tables (own, set, rows) and of the hub (act) do: the tables afterwards, and the answer's line.
+-- What the requests of the tables (own, helper, set, rows) and of the hub (act) do: the tables afterwards, and the answer's line.
 use Prim.Native.Nat.{ℕ, _+_, _-_}
 use mathlib.Core.List.{List}
 use lib.Dec.{eqb}
@@ -12,7 +12,7 @@ use Rattle.hub.specs.Acts.{After, actOf}
 use Rattle.words.specs.Said.{said}
 use Rattle.printing.specs.Sheet.{Sheet, pour}
 use Rattle.requests.specs.Kinds.{FieldSays}
-use Rattle.requests.specs.Rows.{OWN, SET}
+use Rattle.requests.specs.Rows.{OWN, HELPER, SET}
 use Rattle.requests.specs.Words.{numberAt, octetAt, octetsAt}
 use Rattle.lines.specs.Lines.{shown, faultLine, lent}
 
@@ -42,11 +42,12 @@ leftBy t sheet = left (t .tables) (pour sheet (t .line))
 abbrev pub rowsLine : List ℕ → ℕ → ℕ → List ℕ
 rowsLine states first last = shown "rows " (octets states first (last + 1 - first))
 
--- the requests of the tables, by what their fields say: own, set, and rows, the family's last
+-- the requests of the tables, by what their fields say: own, helper, set, and rows, the family's last
 unfoldable pub tableTurn : Tables → ℕ → List FieldSays → Turn
 tableTurn T which gs =
-    if eqb which OWN then turn (tables (T .states) (spread (T .owners) (numberAt gs 0) (numberAt gs 1) (octetAt gs 2))) (said "ok")
-    else if eqb which SET then turn (tables (spread (T .states) (numberAt gs 0) (numberAt gs 1) (octetAt gs 2)) (T .owners)) (said "ok")
+    if eqb which OWN then turn (tables (T .states) (spread (T .owners) (numberAt gs 0) (numberAt gs 1) (octetAt gs 2)) (T .helpers)) (said "ok")
+    else if eqb which HELPER then turn (tables (T .states) (T .owners) (spread (T .helpers) (numberAt gs 0) (numberAt gs 1) (octetAt gs 2))) (said "ok")
+    else if eqb which SET then turn (tables (spread (T .states) (numberAt gs 0) (numberAt gs 1) (octetAt gs 2)) (T .owners) (T .helpers)) (said "ok")
     else turn T (rowsLine (T .states) (numberAt gs 0) (numberAt gs 1))
 
 -- answer 05002901020300, or answer - where there are no answer octets; or the refusal with the reader's octet
@@ -64,4 +65,4 @@ actsOf T gs = actOf T (numberAt gs 0) (octetsAt gs 1) (lent (numberAt gs 2))
 
 -- the hub's request: act
 unfoldable pub actTurn : Tables → List FieldSays → Turn
-actTurn T gs = turn (tables (actsOf T gs .states) (T .owners)) (actLine (actsOf T gs))
+actTurn T gs = turn (tables (actsOf T gs .states) (T .owners) (T .helpers)) (actLine (actsOf T gs))

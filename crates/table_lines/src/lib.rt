@@ -1,16 +1,18 @@
-// What the desk answers to the requests of the tables (own, set, rows) and of the hub (act), and what they leave in the tables.
+// What the desk answers to the requests of the tables (own, helper, set, rows) and of the hub (act), and what they leave in the tables.
 ghost use mathlib.Core.Path.{_≡_};
 ghost use mathlib.Core.List.{[]};
-ghost use Prim.Native.Nat.{ℕ, _+_, _-_, _≤_};
+ghost use Prim.Native.Nat.{ℕ, _+_, _-_, _%_, _≤_};
 ghost use Rattle.octets.specs.Answer.{refused};
 ghost use Rattle.octets.specs.Applied.{spread};
 ghost use Rattle.octets.specs.Told.{writtenTold};
 ghost use Rattle.hub.specs.Tables.{tables};
+ghost use Rattle.words.specs.Said.{said};
 ghost use Rattle.printing.specs.Sheet.{sheet, pour};
 ghost use Rattle.requests.specs.Along.{saidIn};
 ghost use Rattle.table_lines.specs.Tables.{left, leftBy, tableTurn, replyLine, actTurn};
 ghost use Rattle.table_lines.specs.Inside.{spanEnd};
 use octets::Written;
+use requests::HELPER;
 use requests::OWN;
 use requests::Request;
 use requests::SET;
@@ -47,32 +49,38 @@ fn spread_over(table: &mut [u8], first: usize, last: usize, octet: u8)
     }
 }
 
+// Does the same by the numbers of a request's fields, says so at the front of `out`, and answers the next place.
+fn spread_said(table: &mut [u8], first: u32, last: u32, octet: u32, out: &mut [u8]) -> usize
+    ensures { λ r. ⌜ (now (table .exit) ≡ spread (now (table .entry)) first last (octet % 256)) ×
+        (sheet (now (out .exit)) r ≡ pour (sheet (now (out .entry)) 0) (said "ok")) ⌝ }
+{
+    spread_over(table, first as usize, last as usize, (octet % 256) as u8);
+    printing::put_text(b"ok", out, 0)
+}
+
 // Does one of the requests of the tables, puts its line at the front of `out`, and answers the next place. Its fields are numbers, so the scratch says nothing of them.
-pub fn table_turn(request: Request, states: &mut [u8], owners: &mut [u8], out: &mut [u8]) -> usize
-    ensures { λ r. ⌜ left (tables (now (states .exit)) (now (owners .exit))) (sheet (now (out .exit)) r) ≡
-        leftBy (tableTurn (tables (now (states .entry)) (now (owners .entry))) (request .which) (saidIn [] (request .fields))) (sheet (now (out .entry)) 0) ⌝ }
+pub fn table_turn(
+    request: Request,
+    states: &mut [u8],
+    owners: &mut [u8],
+    helpers: &mut [u8],
+    out: &mut [u8],
+) -> usize
+    ensures { λ r. ⌜ left (tables (now (states .exit)) (now (owners .exit)) (now (helpers .exit))) (sheet (now (out .exit)) r) ≡
+        leftBy (tableTurn (tables (now (states .entry)) (now (owners .entry)) (now (helpers .entry))) (request .which) (saidIn [] (request .fields))) (sheet (now (out .entry)) 0) ⌝ }
 {
     let fields = request.fields;
     let first = fields[0];
     let last = fields[1];
     let octet = fields[2];
     if request.which == OWN {
-        spread_over(
-            owners,
-            first.value as usize,
-            last.value as usize,
-            (octet.value % 256) as u8,
-        );
-        return printing::put_text(b"ok", out, 0);
+        return spread_said(owners, first.value, last.value, octet.value, out);
+    }
+    if request.which == HELPER {
+        return spread_said(helpers, first.value, last.value, octet.value, out);
     }
     if request.which == SET {
-        spread_over(
-            states,
-            first.value as usize,
-            last.value as usize,
-            (octet.value % 256) as u8,
-        );
-        return printing::put_text(b"ok", out, 0);
+        return spread_said(states, first.value, last.value, octet.value, out);
     }
     let count = span(first.value, last.value);
     lines::put_shown(
@@ -100,10 +108,11 @@ pub fn act_turn(
     octets: &[u8],
     states: &mut [u8],
     owners: &[u8],
+    helpers: &[u8],
     out: &mut [u8],
 ) -> usize
-    ensures { λ r. ⌜ left (tables (now (states .exit)) (now (owners .entry))) (sheet (now (out .exit)) r) ≡
-        leftBy (actTurn (tables (now (states .entry)) (now (owners .entry))) (saidIn (now (octets .entry)) (request .fields))) (sheet (now (out .entry)) 0) ⌝ }
+    ensures { λ r. ⌜ left (tables (now (states .exit)) (now (owners .entry)) (now (helpers .entry))) (sheet (now (out .exit)) r) ≡
+        leftBy (actTurn (tables (now (states .entry)) (now (owners .entry)) (now (helpers .entry))) (saidIn (now (octets .entry)) (request .fields))) (sheet (now (out .entry)) 0) ⌝ }
 {
     let fields = request.fields;
     let sender = fields[0];
@@ -114,6 +123,7 @@ pub fn act_turn(
     let acted = hub::act(
         states,
         owners,
+        helpers,
         sender.value,
         lines::stretch(octets, message.from, message.count as usize),
         buffer,

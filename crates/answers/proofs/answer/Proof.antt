@@ -23,8 +23,11 @@ same-length-3 c = search needs
 same-length-4 : tie.Need-same-length-4
 same-length-4 c = search needs
 
+same-length-5 : tie.Need-same-length-5
+same-length-5 c = search needs
+
 returns : tie.Need-returns
-returns c = left-same refl (c .before .before .put-octet .ensures) ∙ ap withLineEnd (c .before .before .before .before .before .before .before .before .before .before .before .before .answer-line .ensures)
+returns c = left-same refl (c .before .before .put-octet .ensures) ∙ ap withLineEnd (c .before .before .before .before .before .before .before .before .before .before .before .before .before .before .answer-line .ensures)
 
 pub answer-spec : {M : Type 1} → statement M
 answer-spec =
@@ -36,4 +39,5 @@ answer-spec =
     same-length-2
     same-length-3
     same-length-4
+    same-length-5
     returns)

@@ -5,11 +5,11 @@ use Rattle.desk.proofs.read_all.Statement.{statement}
 use Rattle.desk.proofs.read_all.Tie as tie
 
 abbrev Inv-loop : tie.InvT-loop
-Inv-loop chunk₀ line₀ states₀ owners₀ scratch₀ out₀ written₀ held₀ turns₀ t10 chunk line states owners scratch out written held turns =
-    (length chunk ≡ length chunk₀) × (length line ≡ length line₀) × (length states ≡ length states₀) × (length owners ≡ length owners₀) × (length scratch ≡ length scratch₀) × (length out ≡ length out₀)
+Inv-loop chunk₀ line₀ states₀ owners₀ helpers₀ scratch₀ out₀ written₀ held₀ turns₀ t10 chunk line states owners helpers scratch out written held turns =
+    (length chunk ≡ length chunk₀) × (length line ≡ length line₀) × (length states ≡ length states₀) × (length owners ≡ length owners₀) × (length helpers ≡ length helpers₀) × (length scratch ≡ length scratch₀) × (length out ≡ length out₀)
 
 abbrev μ-loop : tie.MeasureT-loop
-μ-loop chunk₀ line₀ states₀ owners₀ scratch₀ out₀ written₀ held₀ turns₀ t10 chunk line states owners scratch out written held turns =
+μ-loop chunk₀ line₀ states₀ owners₀ helpers₀ scratch₀ out₀ written₀ held₀ turns₀ t10 chunk line states owners helpers scratch out written held turns =
     turns
 
 loop-holds : tie.Need-loop-holds Inv-loop μ-loop
@@ -42,6 +42,9 @@ same-length-5 c = search needs
 same-length-6 : tie.Need-same-length-6 Inv-loop μ-loop
 same-length-6 c = search needs
 
+same-length-7 : tie.Need-same-length-7 Inv-loop μ-loop
+same-length-7 c = search needs
+
 returns : tie.Need-returns Inv-loop μ-loop
 returns c = search needs
 
@@ -53,9 +56,6 @@ slice-aggregate-tell c = search needs
 
 tell-requires : tie.Need-tell-requires Inv-loop μ-loop
 tell-requires c κs = search needs
-
-same-length-7 : tie.Need-same-length-7 Inv-loop μ-loop
-same-length-7 c = search needs
 
 same-length-8 : tie.Need-same-length-8 Inv-loop μ-loop
 same-length-8 c = search needs
@@ -72,14 +72,14 @@ same-length-11 c = search needs
 same-length-12 : tie.Need-same-length-12 Inv-loop μ-loop
 same-length-12 c = search needs
 
-returns-2 : tie.Need-returns-2 Inv-loop μ-loop
-returns-2 c = search needs
-
 same-length-13 : tie.Need-same-length-13 Inv-loop μ-loop
 same-length-13 c = search needs
 
 same-length-14 : tie.Need-same-length-14 Inv-loop μ-loop
 same-length-14 c = search needs
+
+returns-2 : tie.Need-returns-2 Inv-loop μ-loop
+returns-2 c = search needs
 
 same-length-15 : tie.Need-same-length-15 Inv-loop μ-loop
 same-length-15 c = search needs
@@ -93,6 +93,15 @@ same-length-17 c = search needs
 same-length-18 : tie.Need-same-length-18 Inv-loop μ-loop
 same-length-18 c = search needs
 
+same-length-19 : tie.Need-same-length-19 Inv-loop μ-loop
+same-length-19 c = search needs
+
+same-length-20 : tie.Need-same-length-20 Inv-loop μ-loop
+same-length-20 c = search needs
+
+same-length-21 : tie.Need-same-length-21 Inv-loop μ-loop
+same-length-21 c = search needs
+
 returns-3 : tie.Need-returns-3 Inv-loop μ-loop
 returns-3 c = search needs
 
@@ -105,15 +114,6 @@ loop-less c = search needs
 loop-again : tie.Need-loop-again Inv-loop μ-loop
 loop-again c = search needs
 
-same-length-19 : tie.Need-same-length-19 Inv-loop μ-loop
-same-length-19 c = search needs
-
-same-length-20 : tie.Need-same-length-20 Inv-loop μ-loop
-same-length-20 c = search needs
-
-same-length-21 : tie.Need-same-length-21 Inv-loop μ-loop
-same-length-21 c = search needs
-
 same-length-22 : tie.Need-same-length-22 Inv-loop μ-loop
 same-length-22 c = search needs
 
@@ -122,6 +122,18 @@ same-length-23 c = search needs
 
 same-length-24 : tie.Need-same-length-24 Inv-loop μ-loop
 same-length-24 c = search needs
+
+same-length-25 : tie.Need-same-length-25 Inv-loop μ-loop
+same-length-25 c = search needs
+
+same-length-26 : tie.Need-same-length-26 Inv-loop μ-loop
+same-length-26 c = search needs
+
+same-length-27 : tie.Need-same-length-27 Inv-loop μ-loop
+same-length-27 c = search needs
+
+same-length-28 : tie.Need-same-length-28 Inv-loop μ-loop
+same-length-28 c = search needs
 
 returns-4 : tie.Need-returns-4 Inv-loop μ-loop
 returns-4 c = search needs
@@ -142,31 +154,35 @@ read-all-spec =
     same-length-4
     same-length-5
     same-length-6
+    same-length-7
     returns
     enum-told-3
     slice-aggregate-tell
     tell-requires
-    same-length-7
     same-length-8
     same-length-9
     same-length-10
     same-length-11
     same-length-12
-    returns-2
     same-length-13
     same-length-14
+    returns-2
     same-length-15
     same-length-16
     same-length-17
     same-length-18
+    same-length-19
+    same-length-20
+    same-length-21
     returns-3
     sub-turns
     loop-less
     loop-again
-    same-length-19
-    same-length-20
-    same-length-21
     same-length-22
     same-length-23
     same-length-24
+    same-length-25
+    same-length-26
+    same-length-27
+    same-length-28
     returns-4)

@@ -9,12 +9,12 @@ use Rattle.hub.proofs.act.Statement.{statement}
 use Rattle.hub.proofs.act.Tie as tie
 
 -- what is granted is sound
-sound : (c : tie.After-ask) → Sound (now (c .before .before .before .before .before .before .before .before .args .message)) (c .ask .given .0 .0)
-sound c = let a = c .before .before .before .before .before .before .before .before .args in act-sound (tables (now (a .states)) (now (a .owners))) (a .sender) (now (a .message)) (now (a .answer)) _ (c .before .before .judge .ensures) _ (c .ask .given .1) (λ i. c .before .before .before .before .before .shared-slice-known2 .given i .fits)
+sound : (c : tie.After-ask) → Sound (now (c .before .before .before .before .before .before .before .before .before .args .message)) (c .ask .given .0 .0)
+sound c = let a = c .before .before .before .before .before .before .before .before .before .args in act-sound (tables (now (a .states)) (now (a .owners)) (now (a .helpers))) (a .sender) (now (a .message)) (now (a .answer)) _ (c .before .before .judge .ensures) _ (c .ask .given .1) (λ i. c .before .before .before .before .before .shared-slice-known3 .given i .fits)
 
 -- and the table has a row for each circuit
-sized-so : (c : tie.After-ask) → length (now (c .before .before .before .before .before .before .before .before .args .states)) ≡ 4096
-sized-so c = let a = c .before .before .before .before .before .before .before .before .args in act-fair (tables (now (a .states)) (now (a .owners))) (a .sender) (now (a .message)) (now (a .answer)) _ (c .before .before .judge .ensures) _ (c .ask .given .1) .states-sized
+sized-so : (c : tie.After-ask) → length (now (c .before .before .before .before .before .before .before .before .before .args .states)) ≡ 4096
+sized-so c = let a = c .before .before .before .before .before .before .before .before .before .args in act-fair (tables (now (a .states)) (now (a .owners)) (now (a .helpers))) (a .sender) (now (a .message)) (now (a .answer)) _ (c .before .before .judge .ensures) _ (c .ask .given .1) .states-sized
 
 judge-requires : tie.Need-judge-requires
 judge-requires c κs = search needs
@@ -41,7 +41,7 @@ same-length : tie.Need-same-length
 same-length c = search needs
 
 returns : tie.Need-returns
-returns c = let a = c .before .before .before .before .before .before .before .before .before .args in act-refused (tables (now (a .states)) (now (a .owners))) (a .sender) (now (a .message)) (now (a .answer)) _ (c .before .before .before .judge .ensures) _ _ (c .before .n .given .1)
+returns c = let a = c .before .before .before .before .before .before .before .before .before .before .args in act-refused (tables (now (a .states)) (now (a .owners)) (now (a .helpers))) (a .sender) (now (a .message)) (now (a .answer)) _ (c .before .before .before .judge .ensures) _ _ (c .before .n .given .1)
 
 same-length-2 : tie.Need-same-length-2
 same-length-2 c = search needs
@@ -50,7 +50,7 @@ same-length-3 : tie.Need-same-length-3
 same-length-3 c = search needs
 
 returns-2 : tie.Need-returns-2
-returns-2 c = let a = c .before .before .before .before .before .before .before .before .before .before .before .before .before .before .before .before .before .args in act-short (tables (now (a .states)) (now (a .owners))) (a .sender) (now (a .message)) (now (a .answer)) _ (c .before .before .before .before .before .before .before .before .before .before .before .judge .ensures) _ (c .before .before .before .before .before .before .before .before .before .ask .given .1) _ _ (c .before .before .before .before .before .write-reply .ensures) _ _ (c .before .n2 .given .1)
+returns-2 c = let a = c .before .before .before .before .before .before .before .before .before .before .before .before .before .before .before .before .before .before .args in act-short (tables (now (a .states)) (now (a .owners)) (now (a .helpers))) (a .sender) (now (a .message)) (now (a .answer)) _ (c .before .before .before .before .before .before .before .before .before .before .before .judge .ensures) _ (c .before .before .before .before .before .before .before .before .before .ask .given .1) _ _ (c .before .before .before .before .before .write-reply .ensures) _ _ (c .before .n2 .given .1)
 
 same-length-4 : tie.Need-same-length-4
 same-length-4 c = search needs
@@ -59,7 +59,7 @@ same-length-5 : tie.Need-same-length-5
 same-length-5 c = search needs
 
 returns-3 : tie.Need-returns-3
-returns-3 c = let a = c .before .before .before .before .before .before .before .before .before .before .before .before .before .before .before .before .before .before .before .before .before .args in act-done (tables (now (a .states)) (now (a .owners))) (a .sender) (now (a .message)) (now (a .answer)) _ (c .before .before .before .before .before .before .before .before .before .before .before .before .before .before .before .judge .ensures) _ (c .before .before .before .before .before .before .before .before .before .before .before .before .before .ask .given .1) _ _ (c .before .before .before .before .before .before .before .before .before .write-reply .ensures) _ _ (c .before .before .before .before .before .n3 .given .1) (c .before .before .change-rows .ensures)
+returns-3 c = let a = c .before .before .before .before .before .before .before .before .before .before .before .before .before .before .before .before .before .before .before .before .before .before .args in act-done (tables (now (a .states)) (now (a .owners)) (now (a .helpers))) (a .sender) (now (a .message)) (now (a .answer)) _ (c .before .before .before .before .before .before .before .before .before .before .before .before .before .before .before .judge .ensures) _ (c .before .before .before .before .before .before .before .before .before .before .before .before .before .ask .given .1) _ _ (c .before .before .before .before .before .before .before .before .before .write-reply .ensures) _ _ (c .before .before .before .before .before .n3 .given .1) (c .before .before .change-rows .ensures)
 
 pub act-spec : {M : Type 1} → statement M
 act-spec =

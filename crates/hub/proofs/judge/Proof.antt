@@ -18,6 +18,10 @@ returns-2 : tie.Need-returns-2
 unfolding judgedOf
 returns-2 c = rw (eq-eqb _ _ (c .before .if1 .left), ne-eqb _ _ (c .if2 .taken))
 
+returns-3 : tie.Need-returns-3
+unfolding judgedOf
+returns-3 c = rw (eq-eqb _ _ (c .before .before .if1 .left), eq-eqb _ _ (c .before .if2 .left), ne-eqb _ _ (c .if3 .taken))
+
 decode-requires : tie.Need-decode-requires
 decode-requires c κs = search needs
 
@@ -28,13 +32,13 @@ enum-known-ask : tie.Need-enum-known-ask
 enum-known-ask c = search needs
 
 permit-requires : tie.Need-permit-requires
-permit-requires c κs = let a = c .before .before .before .before .before .before .before .before .before .args in (c .before .before .before .before .before .if1 .left, c .before .before .before .before .if2 .left, ask-sound (now (a .message)) _ (λ i. c .before .before .before .before .before .before .shared-slice-known3 .given i .fits) (sym (c .before .before .before .decode .ensures) ∙ ap verdictTold (c .before .ask .given .1)) .last)
-
-returns-3 : tie.Need-returns-3
-returns-3 c = let a = c .before .before .before .before .before .before .before .before .before .args in judged-refused (tables (now (a .states)) (now (a .owners))) (a .sender) (now (a .message)) (c .before .before .before .before .before .if1 .left) (c .before .before .before .before .if2 .left) _ (c .before .before .before .decode .ensures) _ _ (c .before .n .given .1)
+permit-requires c κs = let a = c .before .before .before .before .before .before .before .before .before .before .before .args in (c .before .before .before .before .before .before .if1 .left, c .before .before .before .before .before .if2 .left, c .before .before .before .before .if3 .left, ask-sound (now (a .message)) _ (λ i. c .before .before .before .before .before .before .before .shared-slice-known4 .given i .fits) (sym (c .before .before .before .decode .ensures) ∙ ap verdictTold (c .before .ask .given .1)) .last)
 
 returns-4 : tie.Need-returns-4
-returns-4 c = let a = c .before .before .before .before .before .before .before .before .before .before .args in c .permit .ensures ∙ judged-asked (tables (now (a .states)) (now (a .owners))) (a .sender) (now (a .message)) (c .before .before .before .before .before .before .if1 .left) (c .before .before .before .before .before .if2 .left) _ (c .before .before .before .before .decode .ensures) _ (c .before .before .ask .given .1)
+returns-4 c = let a = c .before .before .before .before .before .before .before .before .before .before .before .args in judged-refused (tables (now (a .states)) (now (a .owners)) (now (a .helpers))) (a .sender) (now (a .message)) (c .before .before .before .before .before .before .if1 .left) (c .before .before .before .before .before .if2 .left) (c .before .before .before .before .if3 .left) _ (c .before .before .before .decode .ensures) _ _ (c .before .n .given .1)
+
+returns-5 : tie.Need-returns-5
+returns-5 c = let a = c .before .before .before .before .before .before .before .before .before .before .before .before .args in c .permit .ensures ∙ judged-asked (tables (now (a .states)) (now (a .owners)) (now (a .helpers))) (a .sender) (now (a .message)) (c .before .before .before .before .before .before .before .if1 .left) (c .before .before .before .before .before .before .if2 .left) (c .before .before .before .before .before .if3 .left) _ (c .before .before .before .before .decode .ensures) _ (c .before .before .ask .given .1)
 
 pub judge-spec : {M : Type 1} → statement M
 judge-spec =
@@ -42,9 +46,10 @@ judge-spec =
     (tie.spec
     returns
     returns-2
+    returns-3
     decode-requires
     enum-known-n
     enum-known-ask
     permit-requires
-    returns-3
-    returns-4)
+    returns-4
+    returns-5)

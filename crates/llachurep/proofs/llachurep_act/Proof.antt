@@ -15,7 +15,7 @@ act-requires : tie.Need-act-requires
 act-requires c κs = search needs
 
 written-requires : tie.Need-written-requires
-written-requires c κs = (λ k e. omega (arith, act-small (tables (now (c .before .before .before .before .before .before .before .before .before .before .before .args .states)) (now (c .before .before .before .before .before .before .before .before .before .before .before .args .owners))) (c .before .before .before .before .before .before .before .before .before .before .before .args .sender) (now (c .before .before .before .before .before .before .before .before .before .before .before .args .message)) (now (c .before .before .before .before .before .before .before .before .before .before .before .args .answer)) k (λ i. c .before .before .before .before .before .before .before .before .shared-slice-known2 .given i .fits) (sym (ap (λ (x : After). x .answer) (c .before .before .before .before .act .ensures)) ∙ e)), λ k at e. omega (arith, act-places-within (tables (now (c .before .before .before .before .before .before .before .before .before .before .before .args .states)) (now (c .before .before .before .before .before .before .before .before .before .before .before .args .owners))) (c .before .before .before .before .before .before .before .before .before .before .before .args .sender) (now (c .before .before .before .before .before .before .before .before .before .before .before .args .message)) (now (c .before .before .before .before .before .before .before .before .before .before .before .args .answer)) k at (sym (ap (λ (x : After). x .answer) (c .before .before .before .before .act .ensures)) ∙ e)))
+written-requires c κs = (λ k e. omega (arith, act-small (tables (now (c .before .before .before .before .before .before .before .before .before .before .before .before .args .states)) (now (c .before .before .before .before .before .before .before .before .before .before .before .before .args .owners)) (now (c .before .before .before .before .before .before .before .before .before .before .before .before .args .helpers))) (c .before .before .before .before .before .before .before .before .before .before .before .before .args .sender) (now (c .before .before .before .before .before .before .before .before .before .before .before .before .args .message)) (now (c .before .before .before .before .before .before .before .before .before .before .before .before .args .answer)) k (λ i. c .before .before .before .before .before .before .before .before .shared-slice-known3 .given i .fits) (sym (ap (λ (x : After). x .answer) (c .before .before .before .before .act .ensures)) ∙ e)), λ k at e. omega (arith, act-places-within (tables (now (c .before .before .before .before .before .before .before .before .before .before .before .before .args .states)) (now (c .before .before .before .before .before .before .before .before .before .before .before .before .args .owners)) (now (c .before .before .before .before .before .before .before .before .before .before .before .before .args .helpers))) (c .before .before .before .before .before .before .before .before .before .before .before .before .args .sender) (now (c .before .before .before .before .before .before .before .before .before .before .before .before .args .message)) (now (c .before .before .before .before .before .before .before .before .before .before .before .before .args .answer)) k at (sym (ap (λ (x : After). x .answer) (c .before .before .before .before .act .ensures)) ∙ e)))
 
 same-length : tie.Need-same-length
 same-length c = search needs

@@ -82,8 +82,12 @@ unfolding rowIn keyOf digitsOf lettersAll letterOf
 returns-19 c = rw (c .match .keys19)
 
 returns-20 : tie.Need-returns-20
+unfolding rowIn keyOf digitsOf lettersAll letterOf
+returns-20 c = rw (c .match .keys20)
+
+returns-21 : tie.Need-returns-21
 unfolding keyOf digitsOf lettersAll letterOf
-returns-20 c = row-none forms _ (c .match .rest)
+returns-21 c = row-none forms _ (c .match .rest)
 
 pub row-of-spec : {M : Type 1} → statement M
 row-of-spec =
@@ -108,4 +112,5 @@ row-of-spec =
     returns-17
     returns-18
     returns-19
-    returns-20)
+    returns-20
+    returns-21)

@@ -54,12 +54,12 @@ same-length-2 c = search needs
 returns : tie.Need-returns
 unfolding actTurn
 returns c =
-    let a = c .before .before .before .before .before .before .before .before .before .before .before .before .before .before .before .before .before .before .before .before .before .before .before .before .before .before .before .args in
+    let a = c .before .before .before .before .before .before .before .before .before .before .before .before .before .before .before .before .before .before .before .before .before .before .before .before .before .before .before .before .args in
     let s = now (a .octets) in
     let f = a .request .fields in
     let t = rw (c .before .before .before .before .before .before .before .before .before .before .before .before .before .before .before .front .ensures, c .before .before .before .before .before .before .before .before .before .before .before .before .before .before .before .before .before .before .blank-space .ensures .0, c .before .before .before .before .before .before .before .before .before .before .before .before .stretch .ensures) at (c .before .before .before .before .before .before .before .before .before .before .act .ensures) in
     rw (number-at s f 0, octets-at s f 1, number-at s f 2)
-    (left-same (ap (λ (x : After). tables (x .states) (now (a .owners))) t) (c .before .before .before .say-acted .ensures ∙ ap (λ (x : After). pour (sheet (now (a .out)) 0) (actLine x)) t))
+    (left-same (ap (λ (x : After). tables (x .states) (now (a .owners)) (now (a .helpers))) t) (c .before .before .before .say-acted .ensures ∙ ap (λ (x : After). pour (sheet (now (a .out)) 0) (actLine x)) t))
 
 pub act-turn-spec : {M : Type 1} → statement M
 act-turn-spec =
