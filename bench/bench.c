@@ -14,6 +14,8 @@ typedef uint32_t writing(uint32_t, uint32_t, const uint8_t *, size_t, const uint
                          const uint8_t *, size_t, uint8_t *, size_t);
 typedef uint32_t compacting(const uint8_t *, size_t, uint8_t *, size_t);
 typedef uint32_t calling(const uint8_t *, size_t, uint32_t *, size_t);
+typedef uint32_t roaming(uint32_t, const uint8_t *, size_t, const uint8_t *, size_t, const uint8_t *, size_t,
+                         const uint8_t *, size_t, const uint8_t *, size_t, uint8_t *, size_t);
 typedef uint32_t finding(const uint8_t *, size_t, const uint8_t *, size_t, uint32_t, size_t *, size_t);
 typedef uint64_t numbering(const uint8_t *, size_t, uint8_t *, size_t);
 typedef uint32_t number_writing(uint32_t, uint32_t, uint32_t, const uint8_t *, size_t, uint8_t *, size_t);
@@ -80,6 +82,23 @@ static int message(const char *name)
         static const uint8_t cpg[] = {0x01, 0x00, 0x2C, 0x02, 0x00};
         memcpy(m, cpg, sizeof cpg);
         length = sizeof cpg;
+    } else if (strcmp(name, "udt") == 0) {
+        /* UDT, class 0: called and calling address of 2 octets, data of 20. */
+        static const uint8_t udt[] = {0x09, 0x00, 0x03, 0x05, 0x07, 0x02, 0x42, 0x08, 0x02, 0x42, 0x06, 0x14};
+        memcpy(m, udt, sizeof udt);
+        length = sizeof udt;
+        for (unsigned i = 0; i < 20; i++)
+            put(3 * i);
+    } else if (strcmp(name, "xudt") == 0) {
+        /* XUDT: the same with a hop counter, a segmentation and an importance parameter. */
+        static const uint8_t xudt[] = {0x11, 0x00, 0x0F, 0x04, 0x06, 0x08, 0x1C, 0x02, 0x42, 0x08, 0x02, 0x42, 0x06, 0x14};
+        memcpy(m, xudt, sizeof xudt);
+        length = sizeof xudt;
+        for (unsigned i = 0; i < 20; i++)
+            put(3 * i);
+        put_parameter(0x10, 4);
+        put_parameter(0x12, 1);
+        put(0);
     } else if (strcmp(name, "unknown") == 0) {
         static const uint8_t unknown[] = {0x05, 0x00, 0xFF, 0x01, 0x01, 0x03};
         memcpy(m, unknown, sizeof unknown);
@@ -89,6 +108,9 @@ static int message(const char *name)
     }
     return 1;
 }
+
+/* The functions of SCCP, whose messages are not those of the others. */
+static int sccp(const char *function, char who, unsigned calls);
 
 #define PICK(type, name) (who == 'l' ? llachurep_##name : who == 'p' ? plain_##name : (type *)bench_none)
 
@@ -101,6 +123,8 @@ int main(int count, char **words)
     unsigned calls = 0;
     for (const char *c = words[4]; *c; c++)
         calls = 10 * calls + (unsigned)(*c - '0');
+    if (strcmp(function, "sccp_read") == 0 || strcmp(function, "sccp_write") == 0 || strcmp(function, "sccp_compact") == 0)
+        return sccp(function, who, calls);
 
     uint16_t parts[10] = {0}, parts_of_plain[10] = {0};
     uint32_t values[10] = {0}, values_of_plain[10] = {0};
@@ -201,6 +225,40 @@ int main(int count, char **words)
             states[parts[0]] = 0; /* so that an IAM is accepted each time */
             sink += f(states, 4096, owners, 4096, helpers, 4096, 7, m, length, out, sizeof out);
         }
+    } else {
+        return 2;
+    }
+    return 0;
+}
+
+static int sccp(const char *function, char who, unsigned calls)
+{
+    uint16_t parts[11] = {0}, parts_of_plain[11] = {0};
+    uint8_t out[268] = {0}, out_of_plain[268] = {0};
+    if (llachurep_sccp_read(m, length, parts, 11) != 11 || plain_sccp_read(m, length, parts_of_plain, 11) != 11 ||
+        memcmp(parts, parts_of_plain, sizeof parts) != 0)
+        return 1;
+    const uint8_t *fixed = m + parts[1], *first = m + parts[3], *second = m + parts[5], *third = m + parts[7], *optional = m + parts[9];
+    if (llachurep_sccp_write(parts[0], fixed, parts[2], first, parts[4], second, parts[6], third, parts[8], optional, parts[10], out,
+                             sizeof out) != length || memcmp(out, m, length) != 0 ||
+        plain_sccp_write(parts[0], fixed, parts[2], first, parts[4], second, parts[6], third, parts[8], optional, parts[10],
+                         out_of_plain, sizeof out) != length || memcmp(out_of_plain, m, length) != 0 ||
+        llachurep_sccp_compact(m, length, out, sizeof out) != length || memcmp(out, m, length) != 0 ||
+        plain_sccp_compact(m, length, out_of_plain, sizeof out) != length || memcmp(out_of_plain, m, length) != 0)
+        return 1;
+    if (strcmp(function, "sccp_read") == 0) {
+        reading *volatile f = PICK(reading, sccp_read);
+        for (unsigned i = 0; i < calls; i++)
+            sink += f(m, length, parts, 11);
+    } else if (strcmp(function, "sccp_write") == 0) {
+        roaming *volatile f = PICK(roaming, sccp_write);
+        for (unsigned i = 0; i < calls; i++)
+            sink += f(parts[0], fixed, parts[2], first, parts[4], second, parts[6], third, parts[8], optional, parts[10], out,
+                      sizeof out);
+    } else if (strcmp(function, "sccp_compact") == 0) {
+        compacting *volatile f = PICK(compacting, sccp_compact);
+        for (unsigned i = 0; i < calls; i++)
+            sink += f(m, length, out, sizeof out);
     } else {
         return 2;
     }

@@ -1,4 +1,4 @@
-/* llachurep.h: ISUP and BICC messages, the hub's circuit table and velocities, for C (C99) and C++.
+/* llachurep.h: ISUP, BICC and SCCP messages, the hub's circuit table and velocities, for C (C99) and C++.
  *
  * The library is target/staticlib/libllachurep.a, made by tools/staticlib, for x86-64.
  * Every function is proved to answer as the paper says (docs/PROMISES.md), and touches nothing but what it is lent.
@@ -13,7 +13,7 @@
  * low 32, and it has no place.)
  *
  * The octet that a reader's refusal is about, in llachurep_read, _compact, _find and _act and in
- * llachurep_bicc_read and _compact: 3 the type octet; 4 the
+ * llachurep_bicc_read, _bicc_compact, _sccp_read and _sccp_compact: 3 the type octet (octet 0 of SCCP); 4 the
  * message's length; 5 the pointer; 6 the length octet; 7 the name octet of the parameter that failed, or the message's
  * length where a name was due and the message ended; 8 the later start of the first two parts that share an octet.
  *
@@ -39,7 +39,7 @@
 
 /* The refusals' numbers. */
 enum {
-    LLACHUREP_TOO_SHORT = 1,         /* under 3 octets, of BICC under 5 */
+    LLACHUREP_TOO_SHORT = 1,         /* under 3 octets, of BICC under 5, of SCCP none */
     LLACHUREP_TOO_LONG = 2,          /* over 268 octets, of BICC over 270 */
     LLACHUREP_NO_TYPE = 3,           /* type not in the table */
     LLACHUREP_CUT = 4,               /* fixed part or pointers cut off by the message's end */
@@ -74,6 +74,17 @@ enum {
     LLACHUREP_PART_SECOND = 6,       /* start, then length; past the length octet */
     LLACHUREP_PART_OPTIONAL = 8,     /* start, then length; without the closing 0 */
     LLACHUREP_PARTS_COUNT = 10
+};
+
+/* What llachurep_sccp_read puts into parts[0] to parts[10]: as above, with no code and a third contents. */
+enum {
+    LLACHUREP_SCCP_PART_TYPE = 0,
+    LLACHUREP_SCCP_PART_FIXED = 1,
+    LLACHUREP_SCCP_PART_FIRST = 3,
+    LLACHUREP_SCCP_PART_SECOND = 5,
+    LLACHUREP_SCCP_PART_THIRD = 7,
+    LLACHUREP_SCCP_PART_OPTIONAL = 9,
+    LLACHUREP_SCCP_PARTS_COUNT = 11
 };
 
 #ifdef __cplusplus
@@ -116,6 +127,23 @@ uint32_t llachurep_bicc_write(uint32_t code, uint32_t type, const uint8_t *fixed
 /* Reads a BICC message and writes it again in its compact form, as llachurep_compact.
  * Refused: as llachurep_bicc_read, but for its 13; then 12, 13. */
 uint32_t llachurep_bicc_compact(const uint8_t *message, size_t length, uint8_t *out, size_t out_length);
+
+/* Reads an SCCP message: the type octet comes first, and from there on it is as in ISUP, with up to three variable contents and
+ * 1 to 268 octets. The types are those with pointers of one octet: LUDT and LUDTS are none. Accepted: v is 11, and parts[0] to
+ * parts[10] are the type, then start and length of the fixed part, of the first, the second and the third contents, and of the
+ * optional run, each 0, 0 where there is none; further elements stay.
+ * Refused: as llachurep_read, 1 for an empty message, 13 where count is under 11. */
+uint32_t llachurep_sccp_read(const uint8_t *message, size_t length, uint16_t *parts, size_t count);
+
+/* Writes an SCCP message in its compact form, as llachurep_write, with a third contents and no circuit, so there is no 9.
+ * Refused: 3, 10, 11, 12, 2, 13. */
+uint32_t llachurep_sccp_write(uint32_t type, const uint8_t *fixed, size_t fixed_length, const uint8_t *first, size_t first_length,
+                              const uint8_t *second, size_t second_length, const uint8_t *third, size_t third_length,
+                              const uint8_t *optional, size_t optional_length, uint8_t *out, size_t out_length);
+
+/* Reads an SCCP message and writes it again in its compact form, as llachurep_compact.
+ * Refused: as llachurep_sccp_read, but for its 13; then 12, 13. */
+uint32_t llachurep_sccp_compact(const uint8_t *message, size_t length, uint8_t *out, size_t out_length);
 
 /* Finds the first parameter of that name in the message's optional part, else in the defaults, which are an optional run
  * without closing 0. Accepted: v is 0 where the message held it and 100 where the defaults did; stretch[0] and

@@ -186,6 +186,53 @@ static void parts(const char *word, const uint8_t *message, const uint32_t *p)
     printf("\n");
 }
 
+/* The same of SCCP, whose writer takes a third contents. */
+static unsigned sccp_tried(uint32_t type, size_t fixed, size_t first, size_t second, size_t third, size_t optional)
+{
+    static const uint8_t zeros[10], run[2] = {1, 0};
+    return CALL(sccp_write)(type, zeros, fixed, zeros, first, zeros, second, zeros, third, run, optional, out, OCTETS) >> 16;
+}
+
+static void sccp_shape(uint32_t type)
+{
+    size_t fixed = 0;
+    if (sccp_tried(type, 0, 0, 0, 0, 0) == 3) {
+        printf("refused 3\n");
+        return;
+    }
+    while (sccp_tried(type, fixed, 0, 0, 0, 0))
+        fixed++;
+    printf("fixed %u variable %u optional %s\n", (unsigned)fixed,
+           !sccp_tried(type, fixed, 1, 0, 0, 0) + !sccp_tried(type, fixed, 0, 1, 0, 0) + !sccp_tried(type, fixed, 0, 0, 1, 0),
+           sccp_tried(type, fixed, 0, 0, 0, 2) ? "no" : "yes");
+}
+
+static void sccp_parts(const uint8_t *message, const uint16_t *p)
+{
+    static const char *const words[5] = {"fixed", "first", "second", "third", "optional"};
+    printf("type %02x", p[0]);
+    for (int i = 0; i < 5; i++) {
+        printf(" %s ", words[i]);
+        hex(message + p[1 + 2 * i], p[2 + 2 * i]);
+    }
+    printf("\n");
+}
+
+/* The boundary has no cursor; the run that a reader gave is walked here. */
+static void list(uint32_t answer, const uint8_t *run, size_t length)
+{
+    if (REFUSAL(answer)) {
+        refused(answer, 1);
+        return;
+    }
+    printf(length ? "parameters" : "parameters -");
+    for (size_t at = 0; at < length; at += 2u + run[at + 1]) {
+        printf(" %02x ", run[at]);
+        hex(run + at + 2, run[at + 1]);
+    }
+    printf("\n");
+}
+
 /* The codes of a velocity, or the values that codes stand for, in the same words. */
 static void velocity(uint32_t answer, unsigned bearing, unsigned speed, const unsigned *vertical, uint32_t down)
 {
@@ -248,6 +295,33 @@ static void answer(size_t length)
                                           f[4].octets, f[4].count, f[5].octets, f[5].count, out, f[6].number), 0);
     } else if (is(length, "bicc-compact", "or")) {
         octets("octets", CALL(bicc_compact)(f[0].octets, f[0].count, out, f[1].number), 1);
+    } else if (is(length, "sccp-shape", "t")) {
+        sccp_shape(f[0].number);
+    } else if (is(length, "sccp-read", "o")) {
+        uint16_t p[11];
+        uint32_t got = CALL(sccp_read)(f[0].octets, f[0].count, p, 11);
+        if (REFUSAL(got)) {
+            refused(got, 1);
+            return;
+        }
+        sccp_parts(f[0].octets, p);
+    } else if (is(length, "sccp-write", "tooooor")) {
+        octets("octets", CALL(sccp_write)(f[0].number, f[1].octets, f[1].count, f[2].octets, f[2].count, f[3].octets,
+                                          f[3].count, f[4].octets, f[4].count, f[5].octets, f[5].count, out, f[6].number), 0);
+    } else if (is(length, "sccp-compact", "or")) {
+        octets("octets", CALL(sccp_compact)(f[0].octets, f[0].count, out, f[1].number), 1);
+    } else if (is(length, "list", "o")) {
+        uint16_t p[10] = {0};
+        uint32_t got = CALL(read)(f[0].octets, f[0].count, p, 10);
+        list(got, f[0].octets + p[8], p[9]);
+    } else if (is(length, "bicc-list", "o")) {
+        uint32_t p[10] = {0};
+        uint32_t got = CALL(bicc_read)(f[0].octets, f[0].count, p, 10);
+        list(got, f[0].octets + p[8], p[9]);
+    } else if (is(length, "sccp-list", "o")) {
+        uint16_t p[11] = {0};
+        uint32_t got = CALL(sccp_read)(f[0].octets, f[0].count, p, 11);
+        list(got, f[0].octets + p[9], p[10]);
     } else if (is(length, "number", "or")) {
         uint64_t got = CALL(number_read)(f[0].octets, f[0].count, out, f[1].number);
         if (NUMBER_REFUSAL(got)) {

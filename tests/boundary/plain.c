@@ -389,6 +389,186 @@ uint32_t plain_bicc_compact(const uint8_t *message, size_t length, uint8_t *out,
                         m + x.variable[1].start, x.variable[1].length, m + x.optional.start, x.optional.length, out, room);
 }
 
+/* ------------------------------------------------------------------------------------------------ SCCP */
+
+/* Source document 002, Table 1 and section 4: the octets of the parameters of type F after the type, how many there are of
+ * type V, and whether there is a pointer to an optional part. LUDT and LUDTS, 13 and 14, are not built. */
+static const struct shape sccp_shapes[256] = {
+    [0x01] = {1, 4, 1, 1},  /* CR */
+    [0x02] = {1, 7, 0, 1},  /* CC */
+    [0x03] = {1, 4, 0, 1},  /* CREF */
+    [0x04] = {1, 7, 0, 1},  /* RLSD */
+    [0x05] = {1, 6, 0, 0},  /* RLC */
+    [0x06] = {1, 4, 1, 0},  /* DT1 */
+    [0x07] = {1, 5, 1, 0},  /* DT2 */
+    [0x08] = {1, 5, 0, 0},  /* AK */
+    [0x09] = {1, 1, 3, 0},  /* UDT */
+    [0x0A] = {1, 1, 3, 0},  /* UDTS */
+    [0x0B] = {1, 3, 1, 0},  /* ED */
+    [0x0C] = {1, 3, 0, 0},  /* EA */
+    [0x0D] = {1, 7, 0, 1},  /* RSR */
+    [0x0E] = {1, 6, 0, 0},  /* RSC */
+    [0x0F] = {1, 4, 0, 1},  /* ERR */
+    [0x10] = {1, 10, 0, 0}, /* IT */
+    [0x11] = {1, 2, 3, 1},  /* XUDT */
+    [0x12] = {1, 2, 3, 1},  /* XUDTS */
+};
+
+struct unit {
+    unsigned type;
+    struct stretch fixed, variable[3], optional;
+};
+
+/* 1 for an empty message, 2 above 268, 3 about octet 0, 4; each variable pointer in turn 5 then 6; the optional pointer 5 then
+ * 7; then 8: the pairs by first member, then second, parts in pointer order. */
+static uint32_t parse_unit(const uint8_t *octets, size_t length, struct unit *x)
+{
+    if (length == 0)
+        return refusal(1);
+    if (length > LONGEST)
+        return refusal(2);
+    unsigned l = (unsigned)length;
+    struct shape row = sccp_shapes[octets[0]];
+    if (!row.known)
+        return placed(3, 0);
+    unsigned pointers = 1u + row.fixed;
+    unsigned end = pointers + row.variable + row.optional;
+    if (end > l)
+        return placed(4, l);
+
+    memset(x, 0, sizeof *x);
+    unsigned from[4], past[4], count = 0; /* the parts that are there */
+    for (unsigned i = 0; i < row.variable; i++) {
+        uint32_t fault = parse_variable(octets, l, end, pointers + i, &x->variable[i]);
+        if (fault)
+            return fault;
+        from[count] = x->variable[i].start - 1;
+        past[count++] = x->variable[i].start + x->variable[i].length;
+    }
+    if (row.optional && octets[end - 1] != 0) {
+        unsigned target = end - 1 + octets[end - 1];
+        if (target >= l)
+            return placed(5, end - 1);
+        unsigned at = target;
+        while (octets[at] != 0) {
+            if (at + 1 >= l)
+                return placed(7, at);
+            unsigned next = at + 2u + octets[at + 1];
+            if (next >= l)
+                return placed(7, next > l ? at : l);
+            at = next;
+        }
+        x->optional.start = target;
+        x->optional.length = at - target;
+        from[count] = target;
+        past[count++] = at + 1;
+    }
+    for (unsigned i = 0; i + 1 < count; i++)
+        for (unsigned j = i + 1; j < count; j++)
+            if (from[i] < past[j] && from[j] < past[i])
+                return placed(8, later(from[i], from[j]));
+    x->type = octets[0];
+    x->fixed.start = 1; /* every type has a fixed part */
+    x->fixed.length = row.fixed;
+    return 0;
+}
+
+uint32_t plain_sccp_read(const uint8_t *message, size_t length, uint16_t *parts, size_t count)
+{
+    struct unit x;
+    uint32_t fault = parse_unit(message, length, &x);
+    if (fault)
+        return fault;
+    if (count < 11)
+        return refusal(13);
+    parts[0] = (uint16_t)x.type;
+    parts[1] = (uint16_t)x.fixed.start;
+    parts[2] = (uint16_t)x.fixed.length;
+    for (unsigned i = 0; i < 3; i++) {
+        parts[3 + 2 * i] = (uint16_t)x.variable[i].start;
+        parts[4 + 2 * i] = (uint16_t)x.variable[i].length;
+    }
+    parts[9] = (uint16_t)x.optional.start;
+    parts[10] = (uint16_t)x.optional.length;
+    return 11;
+}
+
+/* 12, 2, 13, then the compact form. The parts fit the shape. */
+static uint32_t compose_unit(uint32_t type, struct shape row, const uint8_t *fixed, const uint8_t *const contents[3],
+                             const size_t sizes[3], const uint8_t *optional, size_t optional_length, uint8_t *out, size_t room)
+{
+    size_t pointers = 1u + row.fixed;
+    size_t next = pointers + row.variable + row.optional;
+    uint8_t values[4];
+    for (unsigned i = 0; i < row.variable; i++) {
+        size_t value = next - (pointers + i);
+        if (sizes[i] > 255 || value > 255)
+            return refusal(12);
+        values[i] = (uint8_t)value;
+        next += 1 + sizes[i];
+    }
+    values[row.variable] = 0;
+    if (optional_length) {
+        size_t value = next - (pointers + row.variable);
+        if (value > 255)
+            return refusal(12);
+        values[row.variable] = (uint8_t)value;
+        if (optional_length > LONGEST)
+            return refusal(2);
+        next += optional_length + 1;
+    }
+    if (next > LONGEST)
+        return refusal(2);
+    if (next > room)
+        return refusal(13);
+
+    uint8_t *at = out;
+    *at++ = (uint8_t)type;
+    at = put(at, fixed, row.fixed);
+    at = put(at, values, (size_t)row.variable + row.optional);
+    for (unsigned i = 0; i < row.variable; i++) {
+        *at++ = (uint8_t)sizes[i];
+        at = put(at, contents[i], sizes[i]);
+    }
+    if (optional_length) {
+        at = put(at, optional, optional_length);
+        *at = 0;
+    }
+    return (uint32_t)next;
+}
+
+/* 3, 10, 11, 12, 2, 13. */
+uint32_t plain_sccp_write(uint32_t type, const uint8_t *fixed, size_t fixed_length, const uint8_t *first, size_t first_length,
+                          const uint8_t *second, size_t second_length, const uint8_t *third, size_t third_length,
+                          const uint8_t *optional, size_t optional_length, uint8_t *out, size_t room)
+{
+    if (type > 255 || !sccp_shapes[type].known)
+        return refusal(3);
+    struct shape row = sccp_shapes[type];
+    if (fixed_length != row.fixed || (first_length && row.variable < 1) || (second_length && row.variable < 2) ||
+        (third_length && row.variable < 3) || (optional_length && !row.optional))
+        return refusal(10);
+    if (walk(optional, optional_length))
+        return refusal(11);
+    const uint8_t *const contents[3] = {first, second, third};
+    const size_t sizes[3] = {first_length, second_length, third_length};
+    return compose_unit(type, row, fixed, contents, sizes, optional, optional_length, out, room);
+}
+
+/* The reader's, 12, 13. */
+uint32_t plain_sccp_compact(const uint8_t *message, size_t length, uint8_t *out, size_t room)
+{
+    struct unit x;
+    uint32_t fault = parse_unit(message, length, &x);
+    if (fault)
+        return fault;
+    const uint8_t *const contents[3] = {message + x.variable[0].start, message + x.variable[1].start,
+                                        message + x.variable[2].start};
+    const size_t sizes[3] = {x.variable[0].length, x.variable[1].length, x.variable[2].length};
+    return compose_unit(x.type, sccp_shapes[x.type], message + x.fixed.start, contents, sizes, message + x.optional.start,
+                        x.optional.length, out, room);
+}
+
 /* ------------------------------------------------------------------------------------------------ called numbers */
 
 /* 14, 13. */

@@ -24,6 +24,11 @@ uint32_t plain_bicc_write(uint32_t code, uint32_t type, const uint8_t *fixed, si
                           size_t first_length, const uint8_t *second, size_t second_length, const uint8_t *optional,
                           size_t optional_length, uint8_t *out, size_t room);
 uint32_t plain_bicc_compact(const uint8_t *message, size_t length, uint8_t *out, size_t room);
+uint32_t plain_sccp_read(const uint8_t *message, size_t length, uint16_t *parts, size_t count);
+uint32_t plain_sccp_write(uint32_t type, const uint8_t *fixed, size_t fixed_length, const uint8_t *first, size_t first_length,
+                          const uint8_t *second, size_t second_length, const uint8_t *third, size_t third_length,
+                          const uint8_t *optional, size_t optional_length, uint8_t *out, size_t room);
+uint32_t plain_sccp_compact(const uint8_t *message, size_t length, uint8_t *out, size_t room);
 uint32_t plain_velocity_code(double bearing, double speed, uint16_t *codes, size_t count);
 uint32_t plain_velocity_code_vertical(double bearing, double speed, double vertical, uint16_t *codes, size_t count);
 uint32_t plain_velocity_read(uint32_t bearing, uint32_t speed, double *values, size_t count);

@@ -13,14 +13,14 @@
 enum { MESSAGES = 200000, SHOWN = 10 };
 
 enum { READ, WRITE, COMPACT, FIND, NUMBER_READ, NUMBER_WRITE, ACT, BLOCK, VELOCITY_CODE, VELOCITY_VERTICAL, VELOCITY_READ, BICC_READ,
-       BICC_WRITE, BICC_COMPACT, FUNCTIONS };
+       BICC_WRITE, BICC_COMPACT, SCCP_READ, SCCP_WRITE, SCCP_COMPACT, FUNCTIONS };
 static const char *const names[FUNCTIONS] = {"read", "write", "compact", "find", "number_read", "number_write", "act", "block",
                                              "velocity", "vertical", "velocity_read", "bicc_read", "bicc_write",
-                                             "bicc_compact"};
+                                             "bicc_compact", "sccp_read", "sccp_write", "sccp_compact"};
 
 static unsigned long checks, failures;
 static unsigned long seen[FUNCTIONS][32];
-static unsigned long types_read[256], types_acted[256], types_called[256];
+static unsigned long types_read[256], types_acted[256], types_called[256], types_roaming[256];
 
 /* ------------------------------------------------------------------------------------------------ chance, always alike */
 
@@ -67,7 +67,7 @@ static size_t used;
 static int null_if_empty;
 
 /* Ends of pages, each with no page behind it; and the octets that stand at each in this call. */
-enum { PAGE = 65536, PAGES = 4 };
+enum { PAGE = 65536, PAGES = 5 };
 static uint8_t *page_end[PAGES];
 static size_t page_place[PAGES], page_count[PAGES], pages_used;
 
@@ -252,8 +252,8 @@ static uint32_t try_compact(const uint8_t *message, size_t length, size_t room)
 /* What the writer is given. */
 struct given {
     uint32_t circuit, type;
-    size_t fixed_length, first_length, second_length, optional_length;
-    uint8_t fixed[16], first[400], second[400], optional[800];
+    size_t fixed_length, first_length, second_length, optional_length, third_length; /* the third of SCCP alone */
+    uint8_t fixed[16], first[400], second[400], optional[800], third[400];
 };
 
 static uint32_t try_write(const struct given *w, size_t room)
@@ -337,6 +337,71 @@ static uint32_t try_bicc_write(uint32_t code, const struct given *w, size_t room
         show("fixed", w->fixed, w->fixed_length);
         show("first", w->first, w->first_length);
         show("second", w->second, w->second_length);
+        show("optional", w->optional, w->optional_length);
+    }
+    return got;
+}
+
+static uint32_t try_sccp_read(const uint8_t *message, size_t length, size_t count)
+{
+    enum { EDGE = 13 };
+    uint16_t mine[2 * EDGE + 16], other[2 * EDGE + 16], old[2 * EDGE + 16];
+    for (size_t i = 0; i < 2 * EDGE + 16; i++)
+        mine[i] = other[i] = old[i] = (uint16_t)(40000 + 77 * i);
+    begin();
+    size_t m = lend(message, length);
+    ready();
+    int null = count == 0 && null_if_empty;
+    uint32_t got = llachurep_sccp_read(in(m, length), length, null ? NULL : mine + EDGE, count);
+    uint32_t wanted = plain_sccp_read(at(theirs, m, length), length, null ? NULL : other + EDGE, count);
+    if (got >> 16 == 0) {
+        memcpy(old + EDGE, mine + EDGE, 11 * sizeof old[0]);
+        types_roaming[message[0]]++;
+    }
+    if (!settle(SCCP_READ, got, wanted, got >> 16, 0, 0))
+        show("message", message, length);
+    else if (memcmp(mine, other, sizeof mine) != 0 || memcmp(mine, old, sizeof mine) != 0) {
+        if (failed("sccp_read leaves other numbers")) {
+            show("message", message, length);
+            for (int i = 0; i < 11; i++)
+                printf("  %u / %u\n", mine[EDGE + i], other[EDGE + i]);
+        }
+    }
+    return got;
+}
+
+static uint32_t try_sccp_compact(const uint8_t *message, size_t length, size_t room)
+{
+    begin();
+    size_t m = lend(message, length), o = lend(0, room);
+    ready();
+    uint32_t got = llachurep_sccp_compact(in(m, length), length, at(ours, o, room), room);
+    uint32_t wanted = plain_sccp_compact(at(theirs, m, length), length, at(theirs, o, room), room);
+    if (!settle(SCCP_COMPACT, got, wanted, got >> 16, o, got & 65535))
+        show("message", message, length);
+    return got;
+}
+
+static uint32_t try_sccp_write(const struct given *w, size_t room)
+{
+    begin();
+    size_t f = lend(w->fixed, w->fixed_length), a = lend(w->first, w->first_length), b = lend(w->second, w->second_length);
+    size_t c = lend(w->third, w->third_length), p = lend(w->optional, w->optional_length), o = lend(0, room);
+    ready();
+    uint32_t got = llachurep_sccp_write(w->type, in(f, w->fixed_length), w->fixed_length, in(a, w->first_length),
+                                        w->first_length, in(b, w->second_length), w->second_length,
+                                        in(c, w->third_length), w->third_length, in(p, w->optional_length),
+                                        w->optional_length, at(ours, o, room), room);
+    uint32_t wanted = plain_sccp_write(w->type, at(theirs, f, w->fixed_length), w->fixed_length,
+                                       at(theirs, a, w->first_length), w->first_length, at(theirs, b, w->second_length),
+                                       w->second_length, at(theirs, c, w->third_length), w->third_length,
+                                       at(theirs, p, w->optional_length), w->optional_length, at(theirs, o, room), room);
+    if (!settle(SCCP_WRITE, got, wanted, got >> 16, o, got & 65535) && failures <= SHOWN) {
+        printf("  type %u, room %u\n", w->type, (unsigned)room);
+        show("fixed", w->fixed, w->fixed_length);
+        show("first", w->first, w->first_length);
+        show("second", w->second, w->second_length);
+        show("third", w->third, w->third_length);
         show("optional", w->optional, w->optional_length);
     }
     return got;
@@ -1514,6 +1579,189 @@ static void bicc_cases(void)
     want("bicc_write, too long", "ANM", try_bicc_write(7, &w, 800), REFUSED(2));
 }
 
+/* ------------------------------------------------------------------------------------------------ SCCP */
+
+/* A message and what reading it answers; those that read are in compact form. */
+static void sccp_case(const char *text, uint32_t wanted)
+{
+    size_t length = hex(text, octets);
+    want("sccp_read", text, try_sccp_read(octets, length, 11), wanted);
+    want("sccp_compact", text, try_sccp_compact(octets, length, 268), wanted == 11 ? length : wanted);
+    if (wanted == 11) {
+        for (size_t count = 0; count <= 12; count++)
+            want("sccp_read, count", text, try_sccp_read(octets, length, count), count < 11 ? REFUSED(13) : 11);
+        want("sccp_compact, room one short", text, try_sccp_compact(octets, length, length - 1), REFUSED(13));
+        want("sccp_compact, no room", text, try_sccp_compact(octets, length, 0), REFUSED(13));
+    }
+}
+
+static void sccp_cases(void)
+{
+    sccp_case("", REFUSED(1));
+    sccp_case("13", REFUSED(3));
+    sccp_case("14", REFUSED(3));
+    sccp_case("00", REFUSED(3));
+    sccp_case("ff010203", REFUSED(3));
+    sccp_case("0c010203", 11);
+    sccp_case("0c0102", REFUSED(4) + 3);
+    sccp_case("0900", REFUSED(4) + 2);
+    sccp_case("0900030303000000", 11);
+    sccp_case("0900030405014201430201aa", 11);
+    sccp_case("0900030405014201430201", REFUSED(6) + 9);
+    sccp_case("0900000303000000", REFUSED(5) + 2);
+    sccp_case("0900030303", REFUSED(5) + 2);
+    sccp_case("0900030301000000", REFUSED(8) + 5);
+    sccp_case("0900030201000000", REFUSED(8) + 5);
+    sccp_case("0f01020304", REFUSED(4) + 5);
+    sccp_case("0f0102030400", 11);
+    sccp_case("0f010203040120014100", 11);
+    sccp_case("0f0102030401200141", REFUSED(7) + 9);
+    sccp_case("0f01020304012002", REFUSED(7) + 6);
+    sccp_case("0d0102030405060700", 11);
+    sccp_case("11010f04050606014201430020014100", 11);
+    sccp_case("11010f040506ff014201430020014100", REFUSED(5) + 6);
+    sccp_case("11010f04050605014201430020014100", REFUSED(8) + 11);
+    /* ERR with octets after it: 268 in all are read, 269 are not, whatever the type. */
+    for (size_t length = 266; length <= 272; length++) {
+        memset(octets, 0, length);
+        octets[0] = 0x0F;
+        want("sccp_read, length", "ERR", try_sccp_read(octets, length, 11), length > 268 ? REFUSED(2) : 11);
+        octets[0] = 0x13;
+        want("sccp_read, length", "LUDT", try_sccp_read(octets, length, 11), length > 268 ? REFUSED(2) : REFUSED(3));
+    }
+    /* UDT: 252 octets in the first two contents put 255 into the third pointer, one more is 12. */
+    static struct given w;
+    w.type = 0x09;
+    w.fixed_length = 1;
+    w.first_length = w.second_length = 126;
+    want("sccp_write, third pointer 255", "UDT", try_sccp_write(&w, 800), 260);
+    w.first_length = 127;
+    want("sccp_write, third pointer 256", "UDT", try_sccp_write(&w, 800), REFUSED(12));
+    w.first_length = 0;
+    w.second_length = 0;
+    w.third_length = 255;
+    want("sccp_write, a third of 255", "UDT", try_sccp_write(&w, 800), 263);
+    w.third_length = 256;
+    want("sccp_write, a third of 256", "UDT", try_sccp_write(&w, 800), REFUSED(12));
+    w.third_length = 1;
+    w.type = 0x06;
+    w.fixed_length = 4;
+    want("sccp_write, a third that the type lacks", "DT1", try_sccp_write(&w, 800), REFUSED(10));
+    /* ERR with a run: 268 octets are written, 269 are not. */
+    w.third_length = 0;
+    w.type = 0x0F;
+    w.optional_length = 261;
+    memset(w.optional, 0, sizeof w.optional);
+    for (size_t k = 0; k + 2 <= 258; k += 2)
+        w.optional[k] = 1;
+    w.optional[258] = 1;
+    w.optional[259] = 1;
+    want("sccp_write, longest", "ERR", try_sccp_write(&w, 800), 268);
+    want("sccp_write, longest, no room", "ERR", try_sccp_write(&w, 267), REFUSED(13));
+    w.optional[259] = 2;
+    w.optional_length = 262;
+    want("sccp_write, too long", "ERR", try_sccp_write(&w, 800), REFUSED(2));
+    w.type = 0x0109;
+    want("sccp_write, type", "265", try_sccp_write(&w, 800), REFUSED(3));
+}
+
+/* The shapes once more, for what is generated: fixed octets, variable parameters, an optional part. */
+static const uint8_t sccp_rows[19][3] = {{0, 0, 0}, {4, 1, 1}, {7, 0, 1}, {4, 0, 1}, {7, 0, 1}, {6, 0, 0}, {4, 1, 0},
+                                         {5, 1, 0}, {5, 0, 0}, {1, 3, 0}, {1, 3, 0}, {3, 1, 0}, {3, 0, 0}, {7, 0, 1},
+                                         {6, 0, 0}, {4, 0, 1}, {10, 0, 0}, {2, 3, 1}, {2, 3, 1}};
+
+/* What a writer is given: most of it fits the type. */
+static void some_unit(struct given *w)
+{
+    w->type = between(1, 18);
+    const uint8_t *row = sccp_rows[w->type];
+    uint32_t most = one_in(8) ? 130 : one_in(8) ? 258 : 12;
+    w->fixed_length = row[0];
+    w->first_length = row[1] >= 1 ? below(most) : 0;
+    w->second_length = row[1] == 3 ? below(most) : 0;
+    w->third_length = row[1] == 3 ? below(one_in(8) ? 258 : 12) : 0;
+    w->optional_length = row[2] && !one_in(3) ? some_run(w->optional, one_in(8) ? 300 : 30) : 0;
+    noise(w->fixed, sizeof w->fixed);
+    noise(w->first, w->first_length);
+    noise(w->second, w->second_length);
+    noise(w->third, w->third_length);
+}
+
+/* A message of those parts: in any order, with gaps, a pointer or an octet wrong at times. Gives its length. */
+static size_t some_unit_message(const struct given *w, uint8_t *to)
+{
+    const uint8_t *row = sccp_rows[w->type];
+    const uint8_t *const contents[3] = {w->first, w->second, w->third};
+    const size_t sizes[3] = {w->first_length, w->second_length, w->third_length};
+    size_t pointers = 1u + row[0], end = pointers + row[1] + row[2], length = end;
+    to[0] = (uint8_t)w->type;
+    memcpy(to + 1, w->fixed, row[0]);
+    unsigned start = below(4), step = one_in(2) ? 1 : 3;
+    for (unsigned turn = 0; turn < 4; turn++) {
+        unsigned part = (start + turn * step) % 4;
+        size_t gap = one_in(4) ? below(4) : 0;
+        if (part < row[1]) {
+            noise(to + length, gap);
+            length += gap;
+            to[pointers + part] = (uint8_t)(length - pointers - part);
+            to[length++] = (uint8_t)sizes[part];
+            memcpy(to + length, contents[part], sizes[part]);
+            length += sizes[part];
+        } else if (part == 3 && row[2]) {
+            noise(to + length, gap);
+            length += gap;
+            to[end - 1] = (uint8_t)(w->optional_length || one_in(4) ? length - (end - 1) : 0);
+            if (to[end - 1]) {
+                memcpy(to + length, w->optional, w->optional_length);
+                length += w->optional_length;
+                to[length++] = 0;
+            }
+        }
+    }
+    if (one_in(3)) {
+        size_t place = one_in(2) && end > pointers ? pointers + below((uint32_t)(end - pointers)) : below((uint32_t)length);
+        to[place] = (uint8_t)(one_in(3) ? chance() : to[place] + below(5) - 2);
+    }
+    if (one_in(8))
+        length -= below((uint32_t)length + 1);
+    return length;
+}
+
+static void generated_sccp(void)
+{
+    static struct given w;
+    static uint8_t m[2048], scratch[1024];
+    for (unsigned i = 0; i < MESSAGES / 2; i++) {
+        some_unit(&w);
+        size_t length = one_in(20) ? below(20) : some_unit_message(&w, m);
+        if (one_in(40)) {
+            m[0] = (uint8_t)chance();
+        } else if (one_in(20)) {
+            noise(m + 1, length + 8);
+            for (size_t k = 1; k < 24; k++)
+                m[k] &= 7;
+        }
+        try_sccp_read(m, length, one_in(8) ? below(14) : 11);
+        uint32_t size = plain_sccp_compact(m, length, scratch, 1024);
+        try_sccp_compact(m, length, near(size >> 16 ? 0 : size));
+        if (one_in(8))
+            w.type = one_in(4) ? chance() : below(24);
+        if (one_in(8))
+            w.fixed_length = below(12);
+        if (one_in(16))
+            w.third_length = below(5);
+        if (one_in(16))
+            w.second_length = below(5);
+        if (one_in(16))
+            w.optional_length = some_run(w.optional, 30);
+        if (w.optional_length && one_in(8))
+            w.optional[below((uint32_t)w.optional_length)] = (uint8_t)(one_in(2) ? 0 : chance());
+        size = plain_sccp_write(w.type, w.fixed, w.fixed_length, w.first, w.first_length, w.second, w.second_length, w.third,
+                                w.third_length, w.optional, w.optional_length, scratch, 1024);
+        try_sccp_write(&w, near(size >> 16 ? 0 : size));
+    }
+}
+
 /* ------------------------------------------------------------------------------------------------ velocities */
 
 static double of_bits(uint64_t bits)
@@ -1635,6 +1883,9 @@ static void reached(void)
         [BICC_READ] = {1, 1, 1, 1, 1, 1, 1, 1, 1, 0, 0, 0, 0, 1},
         [BICC_WRITE] = {1, 0, 1, 1, 0, 0, 0, 0, 0, 0, 1, 1, 1, 1},
         [BICC_COMPACT] = {1, 1, 1, 1, 1, 1, 1, 1, 1, 0, 0, 0, 1, 1},
+        [SCCP_READ] = {1, 1, 1, 1, 1, 1, 1, 1, 1, 0, 0, 0, 0, 1},
+        [SCCP_WRITE] = {1, 0, 1, 1, 0, 0, 0, 0, 0, 0, 1, 1, 1, 1},
+        [SCCP_COMPACT] = {1, 1, 1, 1, 1, 1, 1, 1, 1, 0, 0, 0, 1, 1},
     };
     for (int f = 0; f < FUNCTIONS; f++) {
         printf("%-13s", names[f]);
@@ -1659,6 +1910,9 @@ static void reached(void)
             failed("types"))
             printf("  %02x was read %lu times, acted on %lu times, read of BICC %lu times\n", type, types_read[type],
                    types_acted[type], types_called[type]);
+        checks++;
+        if ((type >= 1 && type <= 18) != (types_roaming[type] > 1000) && failed("types of SCCP"))
+            printf("  %02x was read %lu times\n", type, types_roaming[type]);
     }
 }
 
@@ -1680,8 +1934,10 @@ int main(void)
     helper_cases();
     block_cases();
     bicc_cases();
+    sccp_cases();
     velocity_cases();
     generated();
+    generated_sccp();
     generated_velocities();
     reached();
     printf("boundary: %lu checks, %lu failures\n", checks, failures);

@@ -31,6 +31,13 @@ REACHED = {
     "bicc-read": READER,
     "bicc-write": [3, 10, 11, 12, 2, 13],
     "bicc-compact": READER + [12, 13],
+    "sccp-shape": [3],
+    "sccp-read": READER,
+    "sccp-write": [3, 10, 11, 12, 2, 13],
+    "sccp-compact": READER + [12, 13],
+    "list": READER,
+    "bicc-list": READER,
+    "sccp-list": READER,
 }
 
 faults = []
@@ -79,9 +86,10 @@ def lines():
 
 
 def shapes():
-    """The table of types: 24 of them, of BICC 20."""
+    """The table of types: 24 of them, of BICC 20, of SCCP 18."""
     check(len(TYPES) == 24, "24 types")
-    check(len(model.BICC.types) == 20, "20 types of BICC")
+    check(len(model.BICC.rows) == 20, "20 types of BICC")
+    check(len(model.SCCP.rows) == 18, "18 types of SCCP")
 
 
 def transcripts():

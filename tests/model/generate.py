@@ -12,10 +12,11 @@ from collections import Counter
 sys.dont_write_bytecode = True
 import model
 import velocities
+from roaming import Roaming
 from model import SHAPES, IAM, REL, RSC, BLO, UBL, GRS, CGB, CGU, CQM
 
-STORED_COUNT = 5000
-STORED_SEED = 769
+STORED_COUNT = 7000
+STORED_SEED = 764
 
 TYPES = sorted(SHAPES)
 WITH_VARIABLE = [kind for kind in TYPES if SHAPES[kind].variable]
@@ -40,7 +41,7 @@ def ends(kind):
     return 3 + row.fixed, 3 + row.fixed + row.variable + (1 if row.optional else 0)
 
 
-class Generator:
+class Generator(Roaming):
     def __init__(self, seed):
         self.rng = random.Random(seed)
         self.desk = model.Desk()        # follows the requests, so that a scene knows who owns what
@@ -886,7 +887,7 @@ class Generator:
     def request(self):
         return self.pick([self.shape, self.read, self.write, self.compact, self.find, self.number, self.dial,
                           self.look, self.strange, self.spans, self.ours, self.velocity, self.velocity_back, self.bicc_shape, self.bicc_read,
-                          self.bicc_write, self.bicc_compact])()[0]
+                          self.bicc_write, self.bicc_compact, self.sccp_shape, self.sccp_read, self.sccp_write, self.sccp_compact, self.lists])()[0]
 
     def long(self):
         """Lines of 8192 octets, of one more, and of many more."""
@@ -1064,7 +1065,7 @@ class Generator:
         made += [b"velocity-back 0 0 255 up", b"velocity-back 0 0 256 up", b"velocity", b"velocity 1", b"velocity 1 1 1",
                  b"velocity 1 1 1 up 1", b"velocity-back", b"velocity-back 1", b"velocity-back 1 1 1", b"velocity-bac 1 1",
                  b"velocity-back- 1 1", b"velocity-backs 1 1", b"velocity- 1 1", b"velocity 1 1 up 1", b"velocity 1  1"]
-        return [[line] for line in made]
+        return [[line] for line in made + self.roaming_limits()]
 
     def tables(self):
         """Scenes with the tables at the very edge of each circuit rule."""
@@ -1211,7 +1212,8 @@ class Generator:
             (3, self.shape), (22, self.read), (20, self.write), (15, self.compact), (18, self.find),
             (9, self.number), (9, self.dial), (10, self.group), (7, self.single), (7, self.helped), (4, self.going), (1, self.spans),
             (18, self.strange), (6, self.ours), (1, self.look), (10, self.velocity), (4, self.velocity_back), (2, self.bicc_shape), (14, self.bicc_read), (12, self.bicc_write),
-            (10, self.bicc_compact), (11, lambda: [self.bad()])])()
+            (10, self.bicc_compact), (3, self.sccp_shape), (16, self.sccp_read), (14, self.sccp_write), (12, self.sccp_compact), (20, self.lists),
+            (12, lambda: [self.bad()])])()
 
     def next(self):
         """The next line, without LF; with a CR in some."""

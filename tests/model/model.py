@@ -95,16 +95,42 @@ class Family(NamedTuple):
     """What one family of messages has other than another."""
     width: int          # the octets before the type octet
     longest: int
-    types: frozenset
+    rows: dict          # the shape of each type
 
 
-ISUP = Family(2, LONGEST, frozenset(SHAPES))
+ISUP = Family(2, LONGEST, SHAPES)
 # Document 02, P4: a call instance code of four octets, 5 to 270 octets, and our types without those that are ISUP's alone.
-BICC = Family(4, 270, frozenset(SHAPES) - {BLO, UBL, BLA, UBA})
+BICC = Family(4, 270, {kind: row for kind, row in SHAPES.items() if kind not in (BLO, UBL, BLA, UBA)})
+
+# Document 02, P6, and source document 002, Table 1 and section 4: the octets of the parameters of type F after the type,
+# how many there are of type V, and whether there is a pointer to an optional part (RSR and ERR have one too).
+SCCP_SHAPES = {}
+for _type, _fixed, _variable, _optional in (
+        (0x01, (3, 1), 1, True),                # CR
+        (0x02, (3, 3, 1), 0, True),             # CC
+        (0x03, (3, 1), 0, True),                # CREF
+        (0x04, (3, 3, 1), 0, True),             # RLSD
+        (0x05, (3, 3), 0, False),               # RLC
+        (0x06, (3, 1), 1, False),               # DT1
+        (0x07, (3, 2), 1, False),               # DT2
+        (0x08, (3, 1, 1), 0, False),            # AK
+        (0x09, (1,), 3, False),                 # UDT
+        (0x0A, (1,), 3, False),                 # UDTS
+        (0x0B, (3,), 1, False),                 # ED
+        (0x0C, (3,), 0, False),                 # EA
+        (0x0D, (3, 3, 1), 0, True),             # RSR
+        (0x0E, (3, 3), 0, False),               # RSC
+        (0x0F, (3, 1), 0, True),                # ERR
+        (0x10, (3, 3, 1, 2, 1), 0, False),      # IT
+        (0x11, (1, 1), 3, True),                # XUDT
+        (0x12, (1, 1), 3, True)):               # XUDTS
+    SCCP_SHAPES[_type] = Shape(sum(_fixed), _variable, _optional)
+# The type octet comes first: 1 for an empty message, 2 above 268.
+SCCP = Family(0, LONGEST, SCCP_SHAPES)
 
 
 def row_of(family, kind):
-    return SHAPES[kind] if kind in family.types else 3
+    return family.rows.get(kind, 3)
 
 
 def parse(family, message):
@@ -176,6 +202,18 @@ def bicc_read(message):
     return got if refused(got) else Call(sum(message[i] << 8 * i for i in range(4)), *got)
 
 
+class Unit(NamedTuple):
+    kind: int
+    fixed: bytes
+    variable: tuple
+    optional: bytes
+
+
+def sccp_read(message):
+    got = parse(SCCP, message)
+    return got if refused(got) else Unit(*got)
+
+
 # ---------------------------------------------------------------- the optional run
 
 def parameters(run):
@@ -195,22 +233,22 @@ def parameters(run):
 
 # ---------------------------------------------------------------- the writer
 
-def compose(family, head, kind, fixed, first, second, optional, room):
-    """3, 10, 11, 12, 2, 13."""
+def compose(family, head, kind, fixed, given, optional, room):
+    """3, 10, 11, 12, 2, 13. Given are the variable contents, an unused one empty."""
     row = row_of(family, kind)
     if refused(row):
         return row
     # Fixed octets of wrong count, or contents for a part the type lacks.
     if len(fixed) != row.fixed:
         return 10
-    if first and row.variable < 1 or second and row.variable < 2 or optional and not row.optional:
+    if any(given[row.variable:]) or optional and not row.optional:
         return 10
     found = parameters(optional)
     if refused(found):
         return found
 
     # Variable parameters in pointer order right after the pointers, the optional part next.
-    contents = (first, second)[:row.variable]
+    contents = given[:row.variable]
     pointers = family.width + 1 + row.fixed
     place = pointers
     target = pointers + row.variable + (1 if row.optional else 0)
@@ -245,12 +283,17 @@ def write(circuit, kind, fixed, first, second, optional, room):
     """9, then as every family."""
     if circuit > 4095:
         return 9
-    return compose(ISUP, bytes((circuit % 256, circuit // 256)), kind, fixed, first, second, optional, room)
+    return compose(ISUP, bytes((circuit % 256, circuit // 256)), kind, fixed, (first, second), optional, room)
 
 
 def bicc_write(code, kind, fixed, first, second, optional, room):
     """Any code is a code."""
-    return compose(BICC, bytes(code >> 8 * i & 255 for i in range(4)), kind, fixed, first, second, optional, room)
+    return compose(BICC, bytes(code >> 8 * i & 255 for i in range(4)), kind, fixed, (first, second), optional, room)
+
+
+def sccp_write(kind, fixed, first, second, third, optional, room):
+    """Nothing stands before the type."""
+    return compose(SCCP, b"", kind, fixed, (first, second, third), optional, room)
 
 
 def compact(message, room):
@@ -268,6 +311,21 @@ def bicc_compact(message, room):
         return got
     first, second = (got.variable + (b"", b""))[:2]
     return bicc_write(got.code, got.kind, got.fixed, first, second, got.optional, room)
+
+
+def sccp_compact(message, room):
+    got = sccp_read(message)
+    if refused(got):
+        return got
+    contents = (got.variable + (b"", b"", b""))[:3]
+    return sccp_write(got.kind, got.fixed, *contents, got.optional, room)
+
+
+# ---------------------------------------------------------------- stepping
+
+def steps(got):
+    """The optional parameters of a message that was read, in order; over one that the reader refuses, that refusal."""
+    return got if refused(got) else parameters(got.optional)
 
 
 # ---------------------------------------------------------------- finding
@@ -573,6 +631,13 @@ FIELDS = {
     b"bicc-read": (octets,),
     b"bicc-write": (ANY, octet, octets, octets, octets, octets, ROOM),
     b"bicc-compact": (octets, ROOM),
+    b"sccp-shape": (octet,),
+    b"sccp-read": (octets,),
+    b"sccp-write": (octet, octets, octets, octets, octets, octets, ROOM),
+    b"sccp-compact": (octets, ROOM),
+    b"list": (octets,),
+    b"bicc-list": (octets,),
+    b"sccp-list": (octets,),
 }
 
 # The requests that have a second form, with more fields.
@@ -607,6 +672,13 @@ def said(message):
     first, second = (message.variable + (b"", b""))[:2]
     return "type %02x fixed %s first %s second %s optional %s" % (
         message.kind, shown(message.fixed), shown(first), shown(second), shown(message.optional))
+
+
+def listed(found):
+    """Name and contents of each parameter, in order."""
+    if refused(found):
+        return found
+    return "parameters " + (" ".join("%02x %s" % (name, shown(contents)) for name, contents in found) or "-")
 
 
 def written(answer):
@@ -661,6 +733,32 @@ class Desk:
 
     def on_bicc_compact(self, message, room):
         return written(bicc_compact(message, room))
+
+    def on_sccp_shape(self, kind):
+        return self.on_shape(kind, SCCP)
+
+    def on_sccp_read(self, message):
+        got = sccp_read(message)
+        if refused(got):
+            return got
+        first, second, third = (got.variable + (b"", b"", b""))[:3]
+        return "type %02x fixed %s first %s second %s third %s optional %s" % (
+            got.kind, shown(got.fixed), shown(first), shown(second), shown(third), shown(got.optional))
+
+    def on_sccp_write(self, *values):
+        return written(sccp_write(*values))
+
+    def on_sccp_compact(self, message, room):
+        return written(sccp_compact(message, room))
+
+    def on_list(self, message):
+        return listed(steps(read(message)))
+
+    def on_bicc_list(self, message):
+        return listed(steps(bicc_read(message)))
+
+    def on_sccp_list(self, message):
+        return listed(steps(sccp_read(message)))
 
     def on_find(self, name, message, defaults):
         found = find(name, message, defaults)

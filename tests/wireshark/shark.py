@@ -46,18 +46,25 @@ def version():
 
 # ---------------------------------------------------------------- the capture file
 
-def wrapped(octets, family):
+def labelled(service, octets):
     """A message behind its service information octet and its routing label; the link is chosen by the circuit, as 5.2 has it."""
     label = HERE | THERE << 14 | (octets[0] & 15) << 28
-    return bytes([family.service]) + struct.pack("<I", label) + octets
+    return bytes([service]) + struct.pack("<I", label) + octets
+
+
+def wrapped(octets, family):
+    return labelled(family.service, octets)
+
+
+def write_packets(path, these):
+    with open(path, "wb") as out:
+        out.write(struct.pack("<IHHiIII", 0xA1B2C3D4, 2, 4, 0, 0, 65535, LINKTYPE_MTP3))
+        for place, packet in enumerate(these):
+            out.write(struct.pack("<IIII", place, 0, len(packet), len(packet)) + packet)
 
 
 def write_capture(path, messages, family=ISUP):
-    with open(path, "wb") as out:
-        out.write(struct.pack("<IHHiIII", 0xA1B2C3D4, 2, 4, 0, 0, 65535, LINKTYPE_MTP3))
-        for place, octets in enumerate(messages):
-            packet = wrapped(octets, family)
-            out.write(struct.pack("<IIII", place, 0, len(packet), len(packet)) + packet)
+    write_packets(path, [wrapped(octets, family) for octets in messages])
 
 
 # ---------------------------------------------------------------- what tshark reads
@@ -190,13 +197,18 @@ def packets(stream):
 
 
 def readings(path, family=ISUP):
-    """What tshark reads in each packet of a capture, in one run, with no settings of the user's."""
+    """What tshark reads in each packet of a capture."""
+    return read_with(path, lambda packet: read_packet(packet, family))
+
+
+def read_with(path, reader):
+    """What a reader makes of each packet, in one run of tshark, with no settings of the user's."""
     command = ["tshark", "-n", "-r", str(path), "-T", "pdml", "-o", "mtp3.standard:ITU", "-o", "isup.variant:ITU Standard"]
     # What tshark tells on standard error goes to a file: it is much, and nobody reads it while the packets come.
     with tempfile.TemporaryDirectory() as settings, tempfile.TemporaryFile() as told:
         own = dict(os.environ, WIRESHARK_CONFIG_DIR=settings)
         run = subprocess.Popen(command, stdin=subprocess.DEVNULL, stdout=subprocess.PIPE, stderr=told, env=own)
-        found = [read_packet(packet, family) for packet in packets(run.stdout)]
+        found = [reader(packet) for packet in packets(run.stdout)]
         if run.wait():
             told.seek(0)
             sys.exit("tshark ended with status %d: %s" % (run.returncode, told.read().decode(errors="replace")))

@@ -28,6 +28,18 @@ use Rattle.bicc.specs.declared.Message.{Message as CallMessage}
 use Rattle.bicc.specs.Table.{callShapeOf as biccShapeOf}
 use Rattle.bicc.specs.Read.{callReadOf as biccReadOf}
 use Rattle.bicc.specs.Write.{callWriteIn as biccWriteIn, callWriteOf as biccWriteOf, callCompactIn as biccCompactIn, callCompactOf as biccCompactOf}
+use Rattle.sccp.specs.declared.Message.{Message as SccpMessage}
+use Rattle.sccp.specs.Table.{sccp, sccpShapeOf}
+use Rattle.sccp.specs.Read.{sccpReadOf}
+use Rattle.sccp.specs.Write.{sccpWriteIn, sccpWriteOf, sccpCompactIn, sccpCompactOf}
+use Rattle.family.specs.declared.Offer.{Offer}
+use Rattle.family.specs.declared.Offer.the-variants.{Param as One, Done}
+use Rattle.family.specs.Family.{Family, readIn}
+use Rattle.family.specs.Steps.{offerAt, placeAfter, stepsFrom, startIn}
+use Rattle.family.proofs.Steps.{done-stays}
+use Rattle.runs.specs.declared.Field.{Field}
+use Rattle.isup.specs.Table.{isup}
+use Rattle.bicc.specs.Table.{bicc}
 use Rattle.number.specs.Read.{numberIn, readNumberOf}
 use Rattle.number.specs.Write.{numberOctets, writeNumberOf}
 use Rattle.decimals.specs.declared.Real.{Real}
@@ -48,7 +60,7 @@ use Rattle.printing.specs.Sheet.{sheet, pour}
 use Rattle.printing.specs.Shown.{decimalIn, decimalOf, hexPairs, hexOf}
 use Rattle.printing.proofs.Pours.{pour-one, pour-append}
 use Rattle.requests.specs.Kinds.{FieldSays}
-use Rattle.requests.specs.Rows.{SHAPE, READ, WRITE, COMPACT, NUMBER, OWN, HELPER, SET, ACT, BLOCK, UNBLOCK, VELOCITY, VELOCITY-LONG, VELOCITY-BACK, VELOCITY-BACK-LONG, BICC-SHAPE, BICC-READ, BICC-WRITE, BICC-COMPACT}
+use Rattle.requests.specs.Rows.{SHAPE, READ, WRITE, COMPACT, NUMBER, OWN, HELPER, SET, ACT, BLOCK, UNBLOCK, VELOCITY, VELOCITY-LONG, VELOCITY-BACK, VELOCITY-BACK-LONG, BICC-SHAPE, BICC-READ, BICC-WRITE, BICC-COMPACT, SCCP-SHAPE, SCCP-READ, SCCP-WRITE, SCCP-COMPACT, LIST, BICC-LIST, SCCP-LIST}
 use Rattle.requests.specs.Words.{Asked, asks, nothing, askedOf, numberAt, octetAt, octetsAt}
 use Rattle.requests.proofs.Sound.{Short, short}
 use Rattle.lines.specs.Lines.{counted, shown, refusal, faultLine, writtenLine, octetsLine, blank, lent, againLine, compactLine}
@@ -56,6 +68,9 @@ use Rattle.lines.proofs.Pouring.{poured-front}
 use Rattle.read_lines.specs.Read.{optionalWord, shapeLine, partsLine, readLine}
 use Rattle.codec_lines.specs.Codec.{foundLine, codecLine}
 use Rattle.bicc_lines.specs.Bicc.{codeLine, biccLine}
+use Rattle.sccp_lines.specs.Sccp.{threeLine, typeLine, sccpLine}
+use Rattle.list_lines.specs.Lists.{offerText, stepsText, listFrom, listBy, listIn, listLine}
+use Rattle.list_lines.proofs.Stepping.{offered}
 use Rattle.number_lines.specs.Numbers.{signalsLine, numberLine, numbersLine}
 use Rattle.velocity_lines.specs.declared.Marked.{Marked}
 use Rattle.velocity_lines.specs.declared.Marked.the-variants.{Is, Not}
@@ -63,7 +78,7 @@ use Rattle.velocity_lines.specs.Velocities.{typedMark, markWord, codesLine, cod
 use Rattle.octets.specs.Applied.{spread}
 use Rattle.block_lines.specs.Blocks.{noticeLine, blockDone}
 use Rattle.table_lines.specs.Tables.{Turn, turn, Left, left, leftBy, rowsLine, tableTurn, replyLine, actsOf, actTurn}
-use Rattle.answers.specs.Turns.{badTurn, blockTurn, turnBy, turnFor, turnOf, turnIn, withLineEnd}
+use Rattle.answers.specs.Turns.{blockTurn, furtherLine, turnBy, turnFor, turnOf, turnIn, withLineEnd}
 use Rattle.answers.proofs.Determined.{AnswersLine}
 
 -- ten digits at the most
@@ -89,6 +104,11 @@ hex-length xs = go (eqb (length xs) 0)
     go : (t : Bool) → length (if t then 45 ∷ [] else hexPairs xs) ≤ 2 * length xs + 1
     go true = omega arith
     go false = omega (arith, pairs-length xs)
+
+-- of one octet two digits
+pair-length : (x : ℕ) → length (hexOf (x ∷ [])) ≡ 2
+unfolding hexOf hexPairs
+pair-length x = refl
 
 counted-length : (w : String) (n : ℕ) → length (counted w n) ≤ length (said w) + 10
 counted-length w n = omega (arith, length-append (said w) (decimalOf n), decimal-length 10 n)
@@ -152,6 +172,21 @@ module _ (most : ℕ) (m : List ℕ) (h : length m ≤ most) where
       omega (arith, length-append (a ++ b) (partsLine m (x .parts)), length-append a b, counted-length "code " (x .code), shown-length " type " (x .kind ∷ []) 1 (omega arith), parts-fit (x .parts))
   code-fits (refused n at) = omega (arith, fault-length n at)
 
+  three-fit : (p : Parts) → length (threeLine m p) ≤ 10 * most + 100
+  unfolding threeLine
+  three-fit p =
+      let a = shown " fixed " (partOf m (p .fixed)) in
+      let b = shown " first " (partOf m (p .first)) in
+      let c = shown " second " (partOf m (p .second)) in
+      let d = shown " third " (partOf m (p .third)) in
+      let e = shown " optional " (partOf m (p .optional)) in
+      omega (arith, length-append (a ++ b ++ c ++ d) e, length-append (a ++ b ++ c) d, length-append (a ++ b) c, length-append a b, part-fits " fixed " (p .fixed), part-fits " first " (p .first), part-fits " second " (p .second), part-fits " third " (p .third), part-fits " optional " (p .optional))
+
+  type-fits : (x : Answer SccpMessage) → length (typeLine m x) ≤ 10 * most + 200
+  unfolding typeLine
+  type-fits (accepted x) = omega (arith, length-append (shown "type " (x .kind ∷ [])) (threeLine m (x .parts)), shown-length "type " (x .kind ∷ []) 1 (omega arith), three-fit (x .parts))
+  type-fits (refused n at) = omega (arith, fault-length n at)
+
   written-fits : (x : Answer ℕ) → length (writtenLine x m) ≤ 2 * most + 100
   unfolding writtenLine
   written-fits (accepted n) = omega (arith, shown-length "octets " (take n m) most (front-length m n most h))
@@ -193,6 +228,22 @@ module _ (most : ℕ) (m : List ℕ) (h : length m ≤ most) where
       go true = omega (arith, shown-length "defaults " (octets d (s .start) (s .len)) most (octets-length d (s .start) (s .len) most k))
       go false = omega (arith, shown-length "message " (octets m (s .start) (s .len)) most (octets-length m (s .start) (s .len) most h))
   found-fits d k (refused n at) = omega (arith, fault-length n at)
+
+-- the steps from octet i on show three characters an octet at the most
+field-length : (m : List ℕ) (f : Field) → length (offerText m (One f)) ≤ 5 + 2 * f .len
+field-length m f =
+    let a = shown " " (f .name ∷ []) in
+    let b = shown " " (octets m (f .at) (f .len)) in
+    omega (arith, length-append a b, length-append (said " ") (hexOf (f .name ∷ [])), pair-length (f .name), shown-length " " (octets m (f .at) (f .len)) (f .len) (omega (arith, length-take (f .len) (drop (f .at) m))))
+
+steps-length : (n : ℕ) (m : List ℕ) (i : ℕ) → length (stepsText m (stepsFrom n m i)) ≤ 3 * (length m - i)
+unfolding stepsFrom stepsText
+steps-length zero m i = omega arith
+steps-length (suc n) m i = go (steps-length n m (placeAfter m i)) (offerAt m i) refl
+  where
+    go : length (stepsText m (stepsFrom n m (placeAfter m i))) ≤ 3 * (length m - placeAfter m i) → (g : Offer) → offerAt m i ≡ g → length (offerText m g ++ stepsText m (stepsFrom n m (placeAfter m i))) ≤ 3 * (length m - i)
+    go rest (One f) e = let x = offered m i f e in omega (arith, length-append (offerText m (One f)) (stepsText m (stepsFrom n m (placeAfter m i))), field-length m f, rest, x .past, x .starts, x .inside)
+    go rest Done e = omega (arith, rest, done-stays m i e)
 
 -- a lent buffer keeps its length
 done-length : {A : Type 0} (buffer : List ℕ) (x : Answer (A × List ℕ)) → length (done buffer (x then roomFor buffer) .left) ≡ length buffer
@@ -249,6 +300,56 @@ module _ (which : ℕ) (gs : List FieldSays) (h : ShortAll gs) where
       go false false false =
           let x = biccCompactOf (octetsAt gs 0) (lent (numberAt gs 1)) in
           omega (arith, again-fits 1024 (x .left) (omega (arith, lent-length (numberAt gs 1), done-length (lent (numberAt gs 1)) (biccCompactIn (octetsAt gs 0)))) (x .answer))
+
+  -- SCCP's
+  sccp-fits : length (sccpLine which gs) ≤ 40000
+  unfolding sccpLine sccpWriteOf sccpCompactOf
+  sccp-fits = go (eqb which SCCP-SHAPE) (eqb which SCCP-READ) (eqb which SCCP-WRITE)
+    where
+      go : (a b c : Bool) → length (if a then shapeLine (sccpShapeOf (octetAt gs 0))
+          else if b then typeLine (octetsAt gs 0) (sccpReadOf (octetsAt gs 0))
+          else if c then octetsLine (sccpWriteOf (numberAt gs 0) (octetsAt gs 1) (octetsAt gs 2) (octetsAt gs 3) (octetsAt gs 4) (octetsAt gs 5) (lent (numberAt gs 6)))
+          else compactLine (sccpCompactOf (octetsAt gs 0) (lent (numberAt gs 1)))) ≤ 40000
+      go true b c = omega (arith, shape-fits (sccpShapeOf (octetAt gs 0)))
+      go false true c = omega (arith, type-fits 1024 (octetsAt gs 0) (h 0) (sccpReadOf (octetsAt gs 0)))
+      go false false true =
+          let x = sccpWriteOf (numberAt gs 0) (octetsAt gs 1) (octetsAt gs 2) (octetsAt gs 3) (octetsAt gs 4) (octetsAt gs 5) (lent (numberAt gs 6)) in
+          omega (arith, written-fits 1024 (x .left) (omega (arith, lent-length (numberAt gs 6), done-length (lent (numberAt gs 6)) (sccpWriteIn (numberAt gs 0) (octetsAt gs 1) (octetsAt gs 2) (octetsAt gs 3) (octetsAt gs 4) (octetsAt gs 5)))) (x .answer))
+      go false false false =
+          let x = sccpCompactOf (octetsAt gs 0) (lent (numberAt gs 1)) in
+          omega (arith, again-fits 1024 (x .left) (omega (arith, lent-length (numberAt gs 1), done-length (lent (numberAt gs 1)) (sccpCompactIn (octetsAt gs 0)))) (x .answer))
+
+  -- a message's parameters
+  steps-fit : (m : List ℕ) → length m ≤ 1024 → (i : ℕ) (g : Offer) → length (listFrom m i g) ≤ 40000
+  steps-fit m k i (One f) = omega (arith, length-append (said "parameters") (stepsText m (stepsFrom (length m) m i)), steps-length (length m) m i)
+  steps-fit m k i Done = omega arith
+
+  listed-fits : (F : Family) (m : List ℕ) → length m ≤ 1024 → length (listIn F m) ≤ 40000
+  unfolding listIn
+  listed-fits F m k = go (readIn F m)
+    where
+      go : (x : Answer Parts) → length (listBy m (startIn F m) x) ≤ 40000
+      go (accepted p) = steps-fit m k (startIn F m) (offerAt m (startIn F m))
+      go (refused n at) = omega (arith, fault-length n at)
+
+  list-fits : length (listLine which gs) ≤ 40000
+  unfolding listLine
+  list-fits = go (eqb which LIST) (eqb which BICC-LIST)
+    where
+      go : (a b : Bool) → length (if a then listIn isup (octetsAt gs 0) else if b then listIn bicc (octetsAt gs 0) else listIn sccp (octetsAt gs 0)) ≤ 40000
+      go true b = listed-fits isup (octetsAt gs 0) (h 0)
+      go false true = listed-fits bicc (octetsAt gs 0) (h 0)
+      go false false = listed-fits sccp (octetsAt gs 0) (h 0)
+
+  -- SCCP's, those that list, and a line that is no request
+  further-fits : length (furtherLine which gs) ≤ 40000
+  unfolding furtherLine
+  further-fits = go (leb which SCCP-COMPACT) (leb which SCCP-LIST)
+    where
+      go : (a b : Bool) → length (if a then sccpLine which gs else if b then listLine which gs else said "bad line") ≤ 40000
+      go true b = sccp-fits
+      go false true = list-fits
+      go false false = omega arith
 
   -- those for numbers
   numbers-fit : length (numbersLine which gs) ≤ 40000
@@ -364,7 +465,7 @@ module _ (T : Tables) (k : length (T .states) ≤ 4096) where
           else if u then blockTurn T which gs
           else if e then turn T (velocitiesLine which gs)
           else if f then turn T (biccLine which gs)
-          else badTurn T) .line) ≤ 40000
+          else turn T (furtherLine which gs)) .line) ≤ 40000
       go true b c d u e f = codec-fits which gs h
       go false true c d u e f = numbers-fit which gs h
       go false false true d u e f = table-fits which gs
@@ -372,7 +473,7 @@ module _ (T : Tables) (k : length (T .states) ≤ 4096) where
       go false false false false true e f = block-fits which gs
       go false false false false false true f = velocities-fit which gs
       go false false false false false false true = bicc-fits which gs h
-      go false false false false false false false = omega arith
+      go false false false false false false false = further-fits which gs h
   asked-fits nothing h = omega arith
 
 -- of every line

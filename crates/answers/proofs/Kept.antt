@@ -25,7 +25,7 @@ use Rattle.velocity_lines.specs.Velocities.{velocitiesLine}
 use Rattle.octets.specs.Applied.{spread}
 use Rattle.block_lines.specs.Blocks.{blockDone}
 use Rattle.table_lines.specs.Tables.{Turn, turn, rowsLine, tableTurn, actsOf, actTurn}
-use Rattle.answers.specs.Turns.{badTurn, blockTurn, turnBy, turnFor, turnOf}
+use Rattle.answers.specs.Turns.{blockTurn, furtherLine, turnBy, turnFor, turnOf}
 
 -- an `act` that the hub refuses
 abbrev pub Refused : Tables → List FieldSays → Type 0
@@ -88,7 +88,7 @@ module _ (T : Tables) (which : ℕ) (gs : List FieldSays) where
       else if u then blockTurn T which gs
       else if v then turn T (velocitiesLine which gs)
       else if w then turn T (biccLine which gs)
-      else badTurn T
+      else turn T (furtherLine which gs)
 
   owners-by : (which ≡ OWN → ⊥) → turnBy T which gs .tables .owners ≡ T .owners
   unfolding turnBy actTurn

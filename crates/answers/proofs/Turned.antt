@@ -23,7 +23,7 @@ use Rattle.number_lines.specs.Numbers.{numbersLine}
 use Rattle.velocity_lines.specs.Velocities.{velocitiesLine}
 use Rattle.block_lines.specs.Blocks.{blockDone}
 use Rattle.table_lines.specs.Tables.{turn, tableTurn, actTurn}
-use Rattle.answers.specs.Turns.{badTurn, blockTurn, turnBy, turnFor, turnOf, turnIn}
+use Rattle.answers.specs.Turns.{badTurn, blockTurn, furtherLine, turnBy, turnFor, turnOf, turnIn}
 
 module _ (T : Tables) (which : ℕ) (gs : List FieldSays) where
   -- a row of each family
@@ -67,9 +67,9 @@ module _ (T : Tables) (which : ℕ) (gs : List FieldSays) where
       let b : 13 < which = omega arith in
       rw (le-ltb _ _ m, le-ltb _ _ k, le-ltb _ _ l, ne-eqb _ _ n, lt-leb _ _ b, lt-leb _ _ v, le-leb _ _ h) refl
 
-  pub turn-none : (which ≡ 11 → ⊥) → 21 < which → badTurn T ≡ turnBy T which gs
+  pub turn-further : (which ≡ 11 → ⊥) → 21 < which → turn T (furtherLine which gs) ≡ turnBy T which gs
   unfolding turnBy
-  turn-none n h =
+  turn-further n h =
       let m : 5 ≤ which = omega arith in
       let k : 7 ≤ which = omega arith in
       let l : 11 ≤ which = omega arith in
@@ -89,7 +89,7 @@ block-any T which s t fs = rw (number-at s fs 0, number-at s fs 1, number-at t f
 
 -- by the row alone
 says-turn : (T : Tables) (r : Request) (s : List ℕ) → turnBy T (r .which) (saidIn s (r .fields)) ≡ turnFor T (saysOf (taken r s))
-unfolding turnBy
+unfolding turnBy furtherLine
 says-turn T r s = go (eqb (r .which) 255) refl
   where
     none : r .which ≡ 255 → turnBy T (r .which) (saidIn s (r .fields)) ≡ badTurn T

@@ -7,11 +7,13 @@ use Rattle.hub.specs.Tables.{Tables, tables, sized}
 use Rattle.words.specs.Said.{said}
 use Rattle.printing.specs.Sheet.{put}
 use Rattle.requests.specs.Kinds.{FieldSays}
-use Rattle.requests.specs.Rows.{NUMBER, OWN, ACT, UNBLOCK, VELOCITY-BACK-LONG, BICC-COMPACT}
+use Rattle.requests.specs.Rows.{NUMBER, OWN, ACT, UNBLOCK, VELOCITY-BACK-LONG, BICC-COMPACT, SCCP-COMPACT, SCCP-LIST}
 use Rattle.requests.specs.Words.{Asked, asks, nothing, askedOf}
 use Rattle.lines.specs.Lines.{refusal}
 use Rattle.codec_lines.specs.Codec.{codecLine}
 use Rattle.bicc_lines.specs.Bicc.{biccLine}
+use Rattle.sccp_lines.specs.Sccp.{sccpLine}
+use Rattle.list_lines.specs.Lists.{listLine}
 use Rattle.number_lines.specs.Numbers.{numbersLine}
 use Rattle.velocity_lines.specs.Velocities.{velocitiesLine}
 use Rattle.block_lines.specs.Blocks.{noticeLine, blockDone}
@@ -31,7 +33,14 @@ blockTurn T which gs =
     let a = blockDone (T .states) which gs in
     turn (tables (a .states) (T .owners) (T .helpers)) (noticeLine (a .answer) (a .buffer))
 
--- a row of the table, by its family: the codec's stand before `number`, those for numbers before `own`, those of the tables before `act`, then those that block from our side, then those for velocities, and then BICC's
+-- the line of a row past BICC's: SCCP's, and then those that list parameters; any other is no request
+unfoldable pub furtherLine : ℕ → List FieldSays → List ℕ
+furtherLine which gs =
+    if leb which SCCP-COMPACT then sccpLine which gs
+    else if leb which SCCP-LIST then listLine which gs
+    else said "bad line"
+
+-- a row of the table, by its family: the codec's stand before `number`, those for numbers before `own`, those of the tables before `act`, then those that block from our side, then those for velocities, then BICC's, and then the further ones
 unfoldable pub turnBy : Tables → ℕ → List FieldSays → Turn
 turnBy T which gs =
     if ltb which NUMBER then turn T (codecLine which gs)
@@ -41,7 +50,7 @@ turnBy T which gs =
     else if leb which UNBLOCK then blockTurn T which gs
     else if leb which VELOCITY-BACK-LONG then turn T (velocitiesLine which gs)
     else if leb which BICC-COMPACT then turn T (biccLine which gs)
-    else badTurn T
+    else turn T (furtherLine which gs)
 
 -- what is asked
 abbrev pub turnFor : Tables → Asked → Turn

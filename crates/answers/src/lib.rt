@@ -2,15 +2,17 @@
 ghost use mathlib.Core.Path.{_≡_};
 ghost use lib.ListN.{length};
 ghost use Rattle.hub.specs.Tables.{tables};
-ghost use Rattle.printing.specs.Sheet.{sheet};
+ghost use Rattle.printing.specs.Sheet.{sheet, pour};
 ghost use Rattle.requests.specs.Along.{saidIn};
 ghost use Rattle.table_lines.specs.Tables.{left, leftBy};
-ghost use Rattle.answers.specs.Turns.{turnBy, turnIn, withLineEnd};
+ghost use Rattle.answers.specs.Turns.{furtherLine, turnBy, turnIn, withLineEnd};
 use requests::ACT;
 use requests::BICC_COMPACT;
 use requests::NUMBER;
 use requests::OWN;
 use requests::Request;
+use requests::SCCP_COMPACT;
+use requests::SCCP_LIST;
 use requests::UNBLOCK;
 use requests::VELOCITY_BACK_LONG;
 
@@ -19,6 +21,19 @@ const CIRCUITS: usize = 4096;
 
 // The octets of scratch that a line asks for.
 const SCRATCH_LEAST: usize = 4168;
+
+// The answer's line to a request past BICC's: one of SCCP's, or one that lists parameters; any other is a bad line.
+fn further_line(request: Request, octets: &[u8], out: &mut [u8]) -> usize
+    ensures { λ r. ⌜ sheet (now (out .exit)) r ≡ pour (sheet (now (out .entry)) 0) (furtherLine (request .which) (saidIn (now (octets .entry)) (request .fields))) ⌝ }
+{
+    if request.which <= SCCP_COMPACT {
+        return sccp_lines::sccp_line(request, octets, out);
+    }
+    if request.which <= SCCP_LIST {
+        return list_lines::list_line(request, octets, out);
+    }
+    printing::put_text(b"bad line", out, 0)
+}
 
 // The answer's line to a request, by its family.
 fn answer_request(
@@ -53,7 +68,7 @@ fn answer_request(
     if request.which <= BICC_COMPACT {
         return bicc_lines::bicc_line(request, octets, out);
     }
-    printing::put_text(b"bad line", out, 0)
+    further_line(request, octets, out)
 }
 
 // The answer's line to a line.

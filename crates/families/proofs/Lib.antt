@@ -1,2 +1,3 @@
 pub mod Rewriting
 pub mod Calling
+pub mod Roaming

@@ -1,4 +1,4 @@
-// The boundary's functions that serve both families of messages: reading and writing again. With `llachurep` and `calls` they are one library for C and Rust.
+// The boundary's functions that serve every family of messages: reading and writing again. With `llachurep`, `calls` and `roaming` they are one library for C and Rust.
 // They are a crate of their own so that its object has one reader and one writer of parts, which the compiler puts where they are called.
 ghost use mathlib.Core.Path.{_≡_};
 ghost use Prim.Native.Nat.{ℕ, _+_, _*_, _≤_};
@@ -6,6 +6,7 @@ ghost use Rattle.octets.specs.Answer.{accepted, refused};
 ghost use Rattle.octets.specs.Told.{writtenTold};
 ghost use Rattle.isup.specs.Write.{compactOf};
 ghost use Rattle.bicc.specs.Write.{callCompactOf};
+ghost use Rattle.sccp.specs.Write.{sccpCompactOf};
 ghost use Rattle.llachurep.specs.Boundary.{packed, given, givenBy};
 use octets::Written;
 
@@ -42,4 +43,12 @@ pub extern "C" fn llachurep_bicc_compact(message: &[u8], out: &mut [u8]) -> u32
     ensures { λ r. ⌜ given r (now (out .exit)) ≡ givenBy (callCompactOf (now (message .entry)) (now (out .entry))) ⌝ }
 {
     written(bicc::compact(message, out))
+}
+
+// Reads an SCCP message and writes it again, in its compact form, to the front of `out`. Accepted: how many octets were written. Refused with the reader's numbers and octets, then 12, then 13.
+#[no_mangle]
+pub extern "C" fn llachurep_sccp_compact(message: &[u8], out: &mut [u8]) -> u32
+    ensures { λ r. ⌜ given r (now (out .exit)) ≡ givenBy (sccpCompactOf (now (message .entry)) (now (out .entry))) ⌝ }
+{
+    written(sccp::compact(message, out))
 }

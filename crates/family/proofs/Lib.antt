@@ -6,3 +6,4 @@ pub mod Never
 pub mod Places
 pub mod Lent
 pub mod Given
+pub mod Steps

@@ -3,3 +3,4 @@ pub mod LowFirst
 pub mod Family
 pub mod Forms
 pub mod Faults
+pub mod Steps

@@ -14,6 +14,13 @@ use layout::Row;
 use layout::Shape;
 use layout::Span;
 use octets::Written;
+use runs::Field;
+
+// What a step through the optional parameters of a message gives: a parameter, or that there is none left.
+pub enum Offer {
+    Param(Field),
+    Done,
+}
 
 // Reads a message of a family whose header has that width, whose longest message has `most` octets, and whose table says `row` of the message's type;
 // and writes again what it says, with that header, in the compact form: fills the front of `out` and keeps the rest, and answers how many octets were written.

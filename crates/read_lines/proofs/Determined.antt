@@ -2,13 +2,20 @@
 use Prim.Native.Nat.{ℕ}
 use mathlib.Core.Path.{_≡_}
 use mathlib.Core.List.{List}
+use Rattle.octets.proofs.Answer.{one-answer}
 use Rattle.layout.specs.declared.Parts.{Parts}
 use Rattle.layout.specs.declared.Row.{Row}
+use Rattle.layout.specs.declared.Span.{Span}
+use Rattle.layout.specs.Spans.{partOf}
 use Rattle.isup.specs.Table.{shapeOf}
 use Rattle.isup.specs.Read.{readOf}
 use Rattle.printing.specs.Sheet.{sheet, pour}
 use Rattle.lines.proofs.Determined.{sheet-determined}
 use Rattle.read_lines.specs.Read.{shapeLine, partsLine, readLine}
+
+-- the octets of a span
+pub part-determined : (message : List ℕ) (span : Span) {r s : List ℕ} → r ≡ partOf message span → s ≡ partOf message span → r ≡ s
+part-determined message span = one-answer
 
 -- of a row
 pub say-row-determined : (row : Row) (out : List ℕ) {left rest : List ℕ} {r q : ℕ} → sheet left r ≡ pour (sheet out 0) (shapeLine row) → sheet rest q ≡ pour (sheet out 0) (shapeLine row) → (left ≡ rest) × (r ≡ q)

@@ -12,8 +12,8 @@ use layout::Parts;
 use layout::Row;
 use layout::Span;
 
-// The octets of a span of a message.
-fn part(message: &[u8], span: Span) -> &[u8]
+// The octets of a span of a message, as many of them as there are.
+pub fn part(message: &[u8], span: Span) -> &[u8]
     ensures { λ r. ⌜ now r ≡ partOf (now (message .entry)) span ⌝ }
 {
     let from = span.from;

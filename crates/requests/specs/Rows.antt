@@ -89,6 +89,34 @@ BICC-WRITE = 20
 abbrev pub BICC-COMPACT : ℕ
 BICC-COMPACT = 21
 
+-- sccp-shape TYPE
+abbrev pub SCCP-SHAPE : ℕ
+SCCP-SHAPE = 22
+
+-- sccp-read MESSAGE
+abbrev pub SCCP-READ : ℕ
+SCCP-READ = 23
+
+-- sccp-write TYPE FIXED FIRST SECOND THIRD OPTIONAL ROOM
+abbrev pub SCCP-WRITE : ℕ
+SCCP-WRITE = 24
+
+-- sccp-compact MESSAGE ROOM
+abbrev pub SCCP-COMPACT : ℕ
+SCCP-COMPACT = 25
+
+-- list MESSAGE
+abbrev pub LIST : ℕ
+LIST = 26
+
+-- bicc-list MESSAGE
+abbrev pub BICC-LIST : ℕ
+BICC-LIST = 27
+
+-- sccp-list MESSAGE
+abbrev pub SCCP-LIST : ℕ
+SCCP-LIST = 28
+
 -- a line that is no request
 abbrev pub BAD : ℕ
 BAD = 255

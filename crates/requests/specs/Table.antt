@@ -96,6 +96,13 @@ forms =
     ∷ row "bicc-read" "s"
     ∷ row "bicc-write" "nossssr"
     ∷ row "bicc-compact" "sr"
+    ∷ row "sccp-shape" "o"
+    ∷ row "sccp-read" "s"
+    ∷ row "sccp-write" "osssssr"
+    ∷ row "sccp-compact" "sr"
+    ∷ row "list" "s"
+    ∷ row "bicc-list" "s"
+    ∷ row "sccp-list" "s"
     ∷ []
 
 -- the kinds of a form's fields

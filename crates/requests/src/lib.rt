@@ -89,6 +89,27 @@ pub const BICC_WRITE: usize = 20;
 // bicc-compact MESSAGE ROOM
 pub const BICC_COMPACT: usize = 21;
 
+// sccp-shape TYPE
+pub const SCCP_SHAPE: usize = 22;
+
+// sccp-read MESSAGE
+pub const SCCP_READ: usize = 23;
+
+// sccp-write TYPE FIXED FIRST SECOND THIRD OPTIONAL ROOM
+pub const SCCP_WRITE: usize = 24;
+
+// sccp-compact MESSAGE ROOM
+pub const SCCP_COMPACT: usize = 25;
+
+// list MESSAGE
+pub const LIST: usize = 26;
+
+// bicc-list MESSAGE
+pub const BICC_LIST: usize = 27;
+
+// sccp-list MESSAGE
+pub const SCCP_LIST: usize = 28;
+
 // A line that is no request.
 pub const BAD: usize = 255;
 
@@ -454,6 +475,48 @@ fn row_of(key: u64) -> Row
         166775585642170990 => Row {
             which: BICC_COMPACT,
             letters: 0x7273,
+            longer: 0,
+        },
+        // sccp-shape o
+        58954803737751 => Row {
+            which: SCCP_SHAPE,
+            letters: 0x6f,
+            longer: 0,
+        },
+        // sccp-read s
+        1527437109399 => Row {
+            which: SCCP_READ,
+            letters: 0x73,
+            longer: 0,
+        },
+        // sccp-write osssssr
+        60578842903703 => Row {
+            which: SCCP_WRITE,
+            letters: 0x7273737373736f,
+            longer: 0,
+        },
+        // sccp-compact sr
+        166775585642456215 => Row {
+            which: SCCP_COMPACT,
+            letters: 0x7273,
+            longer: 0,
+        },
+        // list s
+        454200 => Row {
+            which: LIST,
+            letters: 0x73,
+            longer: 0,
+        },
+        // bicc-list s
+        7816965809774 => Row {
+            which: BICC_LIST,
+            letters: 0x73,
+            longer: 0,
+        },
+        // sccp-list s
+        7816966094999 => Row {
+            which: SCCP_LIST,
+            letters: 0x73,
             longer: 0,
         },
         _ => Row {

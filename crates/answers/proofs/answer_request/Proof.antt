@@ -7,7 +7,7 @@ use Rattle.requests.specs.Along.{saidIn}
 use Rattle.block_lines.specs.Blocks.{Blocked}
 use Rattle.table_lines.specs.Tables.{Turn, left, leftBy}
 use Rattle.table_lines.proofs.Leaving.{left-same}
-use Rattle.answers.proofs.Turned.{turn-codec, turn-numbers, turn-tables, turn-hub, turn-blocks, turn-velocities, turn-bicc, turn-none, table-any, block-any}
+use Rattle.answers.proofs.Turned.{turn-codec, turn-numbers, turn-tables, turn-hub, turn-blocks, turn-velocities, turn-bicc, turn-further, table-any, block-any}
 use borrow.Author.Needs.{needs}
 use Rattle.answers.proofs.answer_request.Statement.{statement}
 use Rattle.answers.proofs.answer_request.Tie as tie
@@ -114,19 +114,16 @@ returns-7 c =
     let a = c .before .before .before .before .before .before .before .before .before .before .before .before .before .before .before .before .before .before .before .before .before .before .before .args in
     left-same refl (c .before .before .bicc-line .ensures) ∙ ap (λ (x : Turn). leftBy x (sheet (now (a .out)) 0)) (turn-bicc (tables (now (a .states)) (now (a .owners)) (now (a .helpers))) (a .request .which) (saidIn (now (a .octets)) (a .request .fields)) (c .before .before .before .before .before .before .before .before .before .before .if4 .left) (c .before .before .before .before .before .before .if6 .left) (c .before .before .before .before .if7 .taken))
 
-slice-aggregate-put-text : tie.Need-slice-aggregate-put-text
-slice-aggregate-put-text c = search needs
-
-put-text-requires : tie.Need-put-text-requires
-put-text-requires c κs = search needs
+further-line-requires : tie.Need-further-line-requires
+further-line-requires c κs = search needs
 
 same-length-15 : tie.Need-same-length-15
 same-length-15 c = search needs
 
 returns-8 : tie.Need-returns-8
 returns-8 c =
-    let a = c .before .before .before .before .before .before .before .before .before .before .before .before .before .before .before .before .before .before .before .before .before .before .before .before .args in
-    left-same refl (c .before .before .put-text .ensures) ∙ ap (λ (x : Turn). leftBy x (sheet (now (a .out)) 0)) (turn-none (tables (now (a .states)) (now (a .owners)) (now (a .helpers))) (a .request .which) (saidIn (now (a .octets)) (a .request .fields)) (c .before .before .before .before .before .before .before .before .before .before .before .if4 .left) (c .before .before .before .before .before .if7 .left))
+    let a = c .before .before .before .before .before .before .before .before .before .before .before .before .before .before .before .before .before .before .before .before .before .before .before .args in
+    left-same refl (c .before .before .further-line .ensures) ∙ ap (λ (x : Turn). leftBy x (sheet (now (a .out)) 0)) (turn-further (tables (now (a .states)) (now (a .owners)) (now (a .helpers))) (a .request .which) (saidIn (now (a .octets)) (a .request .fields)) (c .before .before .before .before .before .before .before .before .before .before .if4 .left) (c .before .before .before .before .if7 .left))
 
 pub answer-request-spec : {M : Type 1} → statement M
 answer-request-spec =
@@ -160,7 +157,6 @@ answer-request-spec =
     bicc-line-requires
     same-length-14
     returns-7
-    slice-aggregate-put-text
-    put-text-requires
+    further-line-requires
     same-length-15
     returns-8)

@@ -86,8 +86,36 @@ unfolding rowIn keyOf digitsOf lettersAll letterOf
 returns-20 c = rw (c .match .keys20)
 
 returns-21 : tie.Need-returns-21
+unfolding rowIn keyOf digitsOf lettersAll letterOf
+returns-21 c = rw (c .match .keys21)
+
+returns-22 : tie.Need-returns-22
+unfolding rowIn keyOf digitsOf lettersAll letterOf
+returns-22 c = rw (c .match .keys22)
+
+returns-23 : tie.Need-returns-23
+unfolding rowIn keyOf digitsOf lettersAll letterOf
+returns-23 c = rw (c .match .keys23)
+
+returns-24 : tie.Need-returns-24
+unfolding rowIn keyOf digitsOf lettersAll letterOf
+returns-24 c = rw (c .match .keys24)
+
+returns-25 : tie.Need-returns-25
+unfolding rowIn keyOf digitsOf lettersAll letterOf
+returns-25 c = rw (c .match .keys25)
+
+returns-26 : tie.Need-returns-26
+unfolding rowIn keyOf digitsOf lettersAll letterOf
+returns-26 c = rw (c .match .keys26)
+
+returns-27 : tie.Need-returns-27
+unfolding rowIn keyOf digitsOf lettersAll letterOf
+returns-27 c = rw (c .match .keys27)
+
+returns-28 : tie.Need-returns-28
 unfolding keyOf digitsOf lettersAll letterOf
-returns-21 c = row-none forms _ (c .match .rest)
+returns-28 c = row-none forms _ (c .match .rest)
 
 pub row-of-spec : {M : Type 1} → statement M
 row-of-spec =
@@ -113,4 +141,11 @@ row-of-spec =
     returns-18
     returns-19
     returns-20
-    returns-21)
+    returns-21
+    returns-22
+    returns-23
+    returns-24
+    returns-25
+    returns-26
+    returns-27
+    returns-28)

@@ -1,0 +1,4 @@
+pub mod Plainly
+pub mod Steps
+pub mod Determined
+pub mod Taken

@@ -1,0 +1,58 @@
+use Rattle.llachurep.proofs.Gives.{valued}
+use Rattle.roaming.proofs.Instances.{sccp-refused, sccp-no-room, sccp-given, sccp-parts-small}
+use Rattle.sccp.specs.Told.{sccpTold}
+use Rattle.sccp.proofs.Places.{read-places-within}
+use native.Mathlib.Omega.{arith}
+use mathlib.Core.List.{List}
+use Rattle.llachurep.specs.Boundary.{given}
+use denote.Ref.{now}
+use mathlib.Core.Path.{sym, _∙_, ap}
+use Prim.Native.Nat.{ℕ}
+use borrow.Author.Needs.{needs}
+use Rattle.roaming.proofs.llachurep_sccp_read.Statement.{statement}
+use Rattle.roaming.proofs.llachurep_sccp_read.Tie as tie
+
+read-requires : tie.Need-read-requires
+read-requires c κs = search needs
+
+enum-known-n : tie.Need-enum-known-n
+enum-known-n c = search needs
+
+refusal-requires : tie.Need-refusal-requires
+refusal-requires c κs = omega (arith, read-places-within (now (c .before .before .before .before .before .before .args .message)) _ _ (sym (c .before .before .before .read .ensures) ∙ ap sccpTold (c .before .n .given .1)) .1)
+
+enum-known-x : tie.Need-enum-known-x
+enum-known-x c = search needs
+
+refusal-requires-2 : tie.Need-refusal-requires-2
+refusal-requires-2 c κs = omega arith
+
+returns : tie.Need-returns
+returns c = valued (c .refusal2 .ensures) (sccp-no-room (now (c .before .before .before .before .before .before .before .before .args .message)) (now (c .before .before .before .before .before .before .before .before .args .parts)) _ (sym (c .before .before .before .before .before .read .ensures) ∙ ap sccpTold (c .before .before .before .x .given .1)) (c .before .if1 .taken))
+
+put-sccp-values-requires : tie.Need-put-sccp-values-requires
+put-sccp-values-requires c κs = (sccp-parts-small (now (c .before .before .before .before .before .before .before .before .args .message)) _ (sym (c .before .before .before .before .before .read .ensures) ∙ ap sccpTold (c .before .before .before .x .given .1)), c .before .if1 .left)
+
+returns-2 : tie.Need-returns-2
+returns-2 c = valued (c .refusal .ensures) (sccp-refused (now (c .before .before .before .before .before .before .before .args .message)) (now (c .before .before .before .before .before .before .before .args .parts)) _ _ (sym (c .before .before .before .before .read .ensures) ∙ ap sccpTold (c .before .before .n .given .1)))
+
+same-length : tie.Need-same-length
+same-length c = search needs
+
+returns-3 : tie.Need-returns-3
+returns-3 c = ap (λ (l : List ℕ). given 11 l) (c .before .before .put-sccp-values .ensures) ∙ sccp-given (now (c .before .before .before .before .before .before .before .before .before .before .before .args .message)) (now (c .before .before .before .before .before .before .before .before .before .before .before .args .parts)) _ (sym (c .before .before .before .before .before .before .before .before .read .ensures) ∙ ap sccpTold (c .before .before .before .before .before .before .x .given .1)) (c .before .before .before .before .if1 .left)
+
+pub llachurep-sccp-read-spec : {M : Type 1} → statement M
+llachurep-sccp-read-spec =
+    tie.close
+    (tie.spec
+    read-requires
+    enum-known-n
+    refusal-requires
+    enum-known-x
+    refusal-requires-2
+    returns
+    put-sccp-values-requires
+    returns-2
+    same-length
+    returns-3)

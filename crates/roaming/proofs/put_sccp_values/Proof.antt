@@ -1,0 +1,109 @@
+use Rattle.octets.proofs.Filled.{sets-filled}
+use lib.ListN.{length-set}
+use Rattle.roaming.specs.Roaming.{sccpValuesOf}
+use native.Mathlib.Omega.{arith}
+use denote.Ref.{now}
+use borrow.Author.Needs.{needs}
+use Rattle.roaming.proofs.put_sccp_values.Statement.{statement}
+use Rattle.roaming.proofs.put_sccp_values.Tie as tie
+
+cast-parts : tie.Need-cast-parts
+cast-parts c = search needs
+
+slice-write-parts : tie.Need-slice-write-parts
+slice-write-parts c = search needs
+
+fixed-start-requires : tie.Need-fixed-start-requires
+fixed-start-requires c κs = search needs
+
+slice-write-parts-2 : tie.Need-slice-write-parts-2
+slice-write-parts-2 c = simp length-set (omega arith)
+
+size-of-requires : tie.Need-size-of-requires
+size-of-requires c κs = search needs
+
+slice-write-parts-3 : tie.Need-slice-write-parts-3
+slice-write-parts-3 c = simp length-set (omega arith)
+
+cast-parts-2 : tie.Need-cast-parts-2
+cast-parts-2 c = search needs
+
+slice-write-parts-4 : tie.Need-slice-write-parts-4
+slice-write-parts-4 c = simp length-set (omega arith)
+
+size-of-requires-2 : tie.Need-size-of-requires-2
+size-of-requires-2 c κs = search needs
+
+slice-write-parts-5 : tie.Need-slice-write-parts-5
+slice-write-parts-5 c = simp length-set (omega arith)
+
+cast-parts-3 : tie.Need-cast-parts-3
+cast-parts-3 c = search needs
+
+slice-write-parts-6 : tie.Need-slice-write-parts-6
+slice-write-parts-6 c = simp length-set (omega arith)
+
+size-of-requires-3 : tie.Need-size-of-requires-3
+size-of-requires-3 c κs = search needs
+
+slice-write-parts-7 : tie.Need-slice-write-parts-7
+slice-write-parts-7 c = simp length-set (omega arith)
+
+cast-parts-4 : tie.Need-cast-parts-4
+cast-parts-4 c = search needs
+
+slice-write-parts-8 : tie.Need-slice-write-parts-8
+slice-write-parts-8 c = simp length-set (omega arith)
+
+size-of-requires-4 : tie.Need-size-of-requires-4
+size-of-requires-4 c κs = search needs
+
+slice-write-parts-9 : tie.Need-slice-write-parts-9
+slice-write-parts-9 c = simp length-set (omega arith)
+
+cast-parts-5 : tie.Need-cast-parts-5
+cast-parts-5 c = search needs
+
+slice-write-parts-10 : tie.Need-slice-write-parts-10
+slice-write-parts-10 c = simp length-set (omega arith)
+
+size-of-requires-5 : tie.Need-size-of-requires-5
+size-of-requires-5 c κs = search needs
+
+slice-write-parts-11 : tie.Need-slice-write-parts-11
+slice-write-parts-11 c = simp length-set (omega arith)
+
+same-length : tie.Need-same-length
+same-length c = simp length-set
+
+returns : tie.Need-returns
+returns c = rw (c .before .before .before .before .before .before .before .before .before .fixed-start .ensures, c .before .before .before .before .before .before .before .before .size-of .ensures, c .before .before .before .before .before .before .size-of2 .ensures, c .before .before .before .before .size-of3 .ensures, c .before .before .size-of4 .ensures, c .size-of5 .ensures) (sets-filled (sccpValuesOf (c .before .before .before .before .before .before .before .before .before .before .before .before .before .before .before .before .before .args .x)) (now (c .before .before .before .before .before .before .before .before .before .before .before .before .before .before .before .before .before .args .parts)) (c .before .before .before .before .before .before .before .before .before .before .before .before .before .before .before .before .before .pre .1))
+
+pub put-sccp-values-spec : {M : Type 1} → statement M
+put-sccp-values-spec =
+    tie.close
+    (tie.spec
+    cast-parts
+    slice-write-parts
+    fixed-start-requires
+    slice-write-parts-2
+    size-of-requires
+    slice-write-parts-3
+    cast-parts-2
+    slice-write-parts-4
+    size-of-requires-2
+    slice-write-parts-5
+    cast-parts-3
+    slice-write-parts-6
+    size-of-requires-3
+    slice-write-parts-7
+    cast-parts-4
+    slice-write-parts-8
+    size-of-requires-4
+    slice-write-parts-9
+    cast-parts-5
+    slice-write-parts-10
+    size-of-requires-5
+    slice-write-parts-11
+    same-length
+    returns)

@@ -1,0 +1,10 @@
+pub mod Types
+pub mod Given
+pub mod Exactly
+pub mod Judged
+pub mod Determined
+pub mod Back
+pub mod Lent
+pub mod Places
+pub mod Udt
+pub mod Samples

@@ -1,0 +1,150 @@
+// What the desk answers to SCCP's requests: sccp-shape, sccp-read, sccp-write, sccp-compact.
+ghost use mathlib.Core.Path.{_≡_};
+ghost use Prim.Native.Nat.{ℕ, _≤_};
+ghost use Rattle.octets.specs.Answer.{refused};
+ghost use Rattle.octets.specs.Told.{writtenTold};
+ghost use Rattle.sccp.specs.Read.{sccpReadOf};
+ghost use Rattle.sccp.specs.Told.{sccpTold};
+ghost use Rattle.sccp.specs.Write.{sccpWriteOf, sccpCompactOf};
+ghost use Rattle.printing.specs.Sheet.{sheet, pour};
+ghost use Rattle.requests.specs.Words.{numberAt, octetsAt};
+ghost use Rattle.requests.specs.Along.{saidIn};
+ghost use Rattle.lines.specs.Lines.{octetsLine, againLine, compactLine, lent};
+ghost use Rattle.sccp_lines.specs.Sccp.{threeLine, typeLine, sccpLine};
+use layout::Parts;
+use octets::Written;
+use requests::Field;
+use requests::Request;
+use requests::SCCP_READ;
+use requests::SCCP_SHAPE;
+use requests::SCCP_WRITE;
+use sccp::Message;
+use sccp::Reading;
+
+// Puts the parts of a message from `at` on, the third contents too, and answers the next place.
+fn put_three(message: &[u8], parts: Parts, out: &mut [u8], at: usize) -> usize
+    ensures { λ r. ⌜ sheet (now (out .exit)) r ≡ pour (sheet (now (out .entry)) at) (threeLine (now (message .entry)) parts) ⌝ }
+{
+    let fixed = lines::put_shown(b" fixed ", read_lines::part(message, parts.fixed), out, at);
+    let first = lines::put_shown(
+        b" first ",
+        read_lines::part(message, parts.first),
+        out,
+        fixed,
+    );
+    let second = lines::put_shown(
+        b" second ",
+        read_lines::part(message, parts.second),
+        out,
+        first,
+    );
+    let third = lines::put_shown(
+        b" third ",
+        read_lines::part(message, parts.third),
+        out,
+        second,
+    );
+    lines::put_shown(
+        b" optional ",
+        read_lines::part(message, parts.optional),
+        out,
+        third,
+    )
+}
+
+// What a message says that reads so.
+fn say_message(message: &[u8], x: Message, out: &mut [u8]) -> usize
+    ensures { λ r. ⌜ sheet (now (out .exit)) r ≡ pour (sheet (now (out .entry)) 0) (typeLine (now (message .entry)) (sccpTold (Reading.Read x))) ⌝ }
+{
+    let parts = x.parts;
+    let kind = lines::put_shown(b"type ", &[x.kind], out, 0);
+    put_three(message, parts, out, kind)
+}
+
+// Says what a message says, or the refusal with its octet.
+fn say_read(message: &[u8], out: &mut [u8]) -> usize
+    ensures { λ r. ⌜ sheet (now (out .exit)) r ≡ pour (sheet (now (out .entry)) 0) (typeLine (now (message .entry)) (sccpReadOf (now (message .entry)))) ⌝ }
+{
+    match sccp::read(message) {
+        Reading::Refused(n, at) => lines::say_fault(n, at as u32, out),
+        Reading::Read(x) => say_message(message, x, out),
+    }
+}
+
+// Writes a message by its fields, and says what was written.
+fn say_write(fields: [Field; 8], octets: &[u8], out: &mut [u8]) -> usize
+    ensures { λ r. ⌜ sheet (now (out .exit)) r ≡ pour (sheet (now (out .entry)) 0)
+        (octetsLine (sccpWriteOf (numberAt (saidIn (now (octets .entry)) fields) 0) (octetsAt (saidIn (now (octets .entry)) fields) 1)
+        (octetsAt (saidIn (now (octets .entry)) fields) 2) (octetsAt (saidIn (now (octets .entry)) fields) 3)
+        (octetsAt (saidIn (now (octets .entry)) fields) 4) (octetsAt (saidIn (now (octets .entry)) fields) 5)
+        (lent (numberAt (saidIn (now (octets .entry)) fields) 6)))) ⌝ }
+{
+    let kind = fields[0];
+    let fixed = fields[1];
+    let first = fields[2];
+    let second = fields[3];
+    let third = fields[4];
+    let optional = fields[5];
+    let room = fields[6];
+    let mut space = lines::blank_space();
+    let buffer = lines::front(&mut space, room.value as usize);
+    let written = sccp::write(
+        kind.value,
+        lines::stretch(octets, fixed.from, fixed.count as usize),
+        lines::stretch(octets, first.from, first.count as usize),
+        lines::stretch(octets, second.from, second.count as usize),
+        lines::stretch(octets, third.from, third.count as usize),
+        lines::stretch(octets, optional.from, optional.count as usize),
+        buffer,
+    );
+    lines::say_written(written, buffer, out)
+}
+
+// What was written again to the front of a buffer, or the reader's refusal with its octet.
+fn say_again(written: Written, buffer: &[u8], out: &mut [u8]) -> usize
+    requires { ⌜ ((n at : ℕ) → writtenTold written ≡ refused n at → at ≤ 65535) ⌝ }
+    ensures { λ r. ⌜ sheet (now (out .exit)) r ≡ pour (sheet (now (out .entry)) 0) (againLine (writtenTold written) (now (buffer .entry))) ⌝ }
+{
+    match written {
+        Written::Octets(n) => { lines::put_shown(b"octets ", lines::stretch(buffer, 0, n), out, 0) }
+        Written::Refused(n, at) => lines::say_fault(n, at as u32, out),
+    }
+}
+
+// Writes a message again, and says what was written.
+fn say_compact(fields: [Field; 8], octets: &[u8], out: &mut [u8]) -> usize
+    ensures { λ r. ⌜ sheet (now (out .exit)) r ≡ pour (sheet (now (out .entry)) 0)
+        (compactLine (sccpCompactOf (octetsAt (saidIn (now (octets .entry)) fields) 0) (lent (numberAt (saidIn (now (octets .entry)) fields) 1)))) ⌝ }
+{
+    let message = fields[0];
+    let room = fields[1];
+    let mut space = lines::blank_space();
+    let buffer = lines::front(&mut space, room.value as usize);
+    let written = sccp::compact(
+        lines::stretch(octets, message.from, message.count as usize),
+        buffer,
+    );
+    say_again(written, buffer, out)
+}
+
+// Puts the answer's line to one of SCCP's requests at the front of `out`, and answers the next place. What `out` has no room for is left out.
+pub fn sccp_line(request: Request, octets: &[u8], out: &mut [u8]) -> usize
+    ensures { λ r. ⌜ sheet (now (out .exit)) r ≡ pour (sheet (now (out .entry)) 0) (sccpLine (request .which) (saidIn (now (octets .entry)) (request .fields))) ⌝ }
+{
+    let fields = request.fields;
+    if request.which == SCCP_SHAPE {
+        let kind = fields[0];
+        return read_lines::say_row(sccp::shape_of((kind.value % 256) as u8), out);
+    }
+    if request.which == SCCP_READ {
+        let message = fields[0];
+        return say_read(
+            lines::stretch(octets, message.from, message.count as usize),
+            out,
+        );
+    }
+    if request.which == SCCP_WRITE {
+        return say_write(fields, octets, out);
+    }
+    say_compact(fields, octets, out)
+}
