@@ -1,5 +1,6 @@
-/* bench FUNCTION MESSAGE WHO CALLS: so many calls of one function on one message, by the library (l), by the plain code (p) or by a
- * function that only returns (n). bench/run counts the instructions. Before the calls, both are seen to answer alike. */
+/* bench FUNCTION MESSAGE WHO CALLS: so many calls of one function on one message, or about some circuits (all, most, one), by the
+ * library (l), by the plain code (p) or by a function that only returns (n). bench/run counts the instructions. Before the calls,
+ * both are seen to answer alike. */
 #include <string.h>
 
 #include "../tests/boundary/plain.h"
@@ -19,12 +20,15 @@ typedef uint32_t roaming(uint32_t, const uint8_t *, size_t, const uint8_t *, siz
 typedef uint32_t finding(const uint8_t *, size_t, const uint8_t *, size_t, uint32_t, size_t *, size_t);
 typedef uint64_t numbering(const uint8_t *, size_t, uint8_t *, size_t);
 typedef uint32_t number_writing(uint32_t, uint32_t, uint32_t, const uint8_t *, size_t, uint8_t *, size_t);
-typedef uint32_t acting(uint8_t *, size_t, const uint8_t *, size_t, const uint8_t *, size_t, uint32_t, const uint8_t *, size_t,
-                        uint8_t *, size_t);
+typedef uint32_t acting(uint8_t *, size_t, const uint8_t *, size_t, const uint8_t *, size_t, uint8_t *, size_t, uint32_t,
+                        const uint8_t *, size_t, uint8_t *, size_t);
+typedef uint32_t blocking(uint8_t *, size_t, uint8_t *, size_t, uint32_t, uint32_t, uint8_t *, size_t);
+typedef uint64_t asking(const uint8_t *, size_t, const uint8_t *, size_t, uint32_t, uint32_t);
+typedef uint32_t rebuilding(const uint8_t *, size_t, uint8_t *, size_t);
 
-static uint8_t m[268], states[4096], owners[4096], helpers[4096];
+static uint8_t m[268], states[4096], owners[4096], helpers[4096], totals[64];
 static size_t length;
-static uint32_t last_name;
+static uint32_t last_name, first, last;
 static volatile uint64_t sink;
 
 static void put(unsigned octet)
@@ -50,9 +54,17 @@ static void put_iam(void)
     length = sizeof start;
 }
 
+/* The circuits that a question is about. */
+static int circuits(const char *name)
+{
+    first = strcmp(name, "all") == 0 ? 0 : strcmp(name, "most") == 0 ? 1 : 5;
+    last = strcmp(name, "all") == 0 ? 4095 : strcmp(name, "most") == 0 ? 4094 : 5;
+    return last > 5 || strcmp(name, "one") == 0;
+}
+
 static int message(const char *name)
 {
-    if (strcmp(name, "grs") == 0) {
+    if (strcmp(name, "grs") == 0 || circuits(name)) {
         static const uint8_t grs[] = {0x05, 0x00, 0x17, 0x01, 0x01, 0x03};
         memcpy(m, grs, sizeof grs);
         length = sizeof grs;
@@ -130,7 +142,7 @@ int main(int count, char **words)
     uint32_t values[10] = {0}, values_of_plain[10] = {0};
     uint8_t out[270] = {0}, out_of_plain[270] = {0}, call[270] = {0x01, 0x02, 0x03, 0x04};
     size_t stretch[2] = {0}, stretch_of_plain[2];
-    static uint8_t states_of_plain[4096];
+    static uint8_t states_of_plain[4096], totals_of_plain[64];
     memset(owners, 7, sizeof owners);
     memcpy(call + 4, m + 2, length - 2); /* the same message of BICC */
     uint32_t reading_answer = llachurep_read(m, length, parts, 10);
@@ -216,15 +228,46 @@ int main(int count, char **words)
         for (unsigned i = 0; i < calls; i++)
             sink += f(3, 1, 0, digits, sizeof digits, out, sizeof out);
     } else if (strcmp(function, "act") == 0) {
-        uint32_t size = llachurep_act(states, 4096, owners, 4096, helpers, 4096, 7, m, length, out, sizeof out);
-        if (size >> 16 || plain_act(states_of_plain, 4096, owners, 4096, helpers, 4096, 7, m, length, out_of_plain, sizeof out) != size ||
-            memcmp(out, out_of_plain, sizeof out) != 0 || memcmp(states, states_of_plain, sizeof states) != 0)
+        uint32_t size = llachurep_act(states, 4096, owners, 4096, helpers, 4096, totals, 64, 7, m, length, out, sizeof out);
+        if (size >> 16 ||
+            plain_act(states_of_plain, 4096, owners, 4096, helpers, 4096, totals_of_plain, 64, 7, m, length, out_of_plain,
+                      sizeof out) != size ||
+            memcmp(out, out_of_plain, sizeof out) != 0 || memcmp(states, states_of_plain, sizeof states) != 0 ||
+            memcmp(totals, totals_of_plain, sizeof totals) != 0)
             return 1;
         acting *volatile f = PICK(acting, act);
         for (unsigned i = 0; i < calls; i++) {
             states[parts[0]] = 0; /* so that an IAM is accepted each time */
-            sink += f(states, 4096, owners, 4096, helpers, 4096, 7, m, length, out, sizeof out);
+            sink += f(states, 4096, owners, 4096, helpers, 4096, totals, 64, 7, m, length, out, sizeof out);
         }
+    } else if (strcmp(function, "block") == 0) {
+        if (llachurep_block(states, 4096, totals, 64, first, 1, out, sizeof out) != 3 ||
+            plain_block(states_of_plain, 4096, totals_of_plain, 64, first, 1, out_of_plain, sizeof out) != 3 ||
+            memcmp(out, out_of_plain, sizeof out) != 0 || memcmp(states, states_of_plain, sizeof states) != 0 ||
+            memcmp(totals, totals_of_plain, sizeof totals) != 0)
+            return 1;
+        blocking *volatile f = PICK(blocking, block);
+        for (unsigned i = 0; i < calls; i++)
+            sink += f(states, 4096, totals, 64, first, 1, out, sizeof out);
+    } else if (strcmp(function, "rebuild") == 0) {
+        for (unsigned i = 0; i < 4096; i++)
+            states[i] = (uint8_t)(7 * i);
+        if (llachurep_rebuild(states, 4096, totals, 64) != 64 || plain_rebuild(states, 4096, totals_of_plain, 64) != 64 ||
+            memcmp(totals, totals_of_plain, sizeof totals) != 0)
+            return 1;
+        rebuilding *volatile f = PICK(rebuilding, rebuild);
+        for (unsigned i = 0; i < calls; i++)
+            sink += f(states, 4096, totals, 64);
+    } else if (strcmp(function, "busy") == 0) {
+        for (unsigned i = 0; i < 4096; i++)
+            states[i] = (uint8_t)(7 * i);
+        llachurep_rebuild(states, 4096, totals, 64);
+        uint64_t answer = llachurep_busy(states, 4096, totals, 64, first, last);
+        if (answer >> 32 || plain_busy(states, 4096, totals, 64, first, last) != answer)
+            return 1;
+        asking *volatile f = PICK(asking, busy);
+        for (unsigned i = 0; i < calls; i++)
+            sink += f(states, 4096, totals, 64, first, last);
     } else {
         return 2;
     }

@@ -1,4 +1,4 @@
-/* llachurep.h: ISUP, BICC and SCCP messages, the hub's circuit table and velocities, for C (C99) and C++.
+/* llachurep.h: ISUP, BICC and SCCP messages, the hub's circuit table with its totals, and velocities, for C (C99) and C++.
  *
  * The library is target/staticlib/libllachurep.a, made by tools/staticlib, for x86-64.
  * Every function is proved to answer as the paper says (docs/PROMISES.md), and touches nothing but what it is lent.
@@ -9,8 +9,8 @@
  * What comes back. Answers are one number, 65536 * N + v. N is 0 where the call is accepted, and v is then said at each
  * function. Else N is the refusal's number, v is the octet of the message that it is about, and no lent octet has changed.
  * Only a reader's refusal from 3 to 8 is about an octet; v is 0 with every other number. Take the two apart by the macros
- * below: an answer is not to be compared with 65536 * N. (llachurep_number_read answers 64 bits: its N stands above the
- * low 32, and it has no place.)
+ * below: an answer is not to be compared with 65536 * N. (llachurep_number_read and llachurep_busy answer 64 bits: their
+ * N stands above the low 32, and they have no place.)
  *
  * The octet that a reader's refusal is about, in llachurep_read, _compact, _find and _act and in
  * llachurep_bicc_read, _bicc_compact, _sccp_read and _sccp_compact: 3 the type octet (octet 0 of SCCP); 4 the
@@ -37,6 +37,11 @@
 #define LLACHUREP_NUMBER_PLAN(answer) ((uint32_t)((uint64_t)(answer) >> 8) & 7u)
 #define LLACHUREP_NUMBER_COUNT(answer) ((uint32_t)(answer) & 255u)
 
+/* And for llachurep_busy: how many totals and rows were looked at, and how many circuits are busy. */
+#define LLACHUREP_BUSY_REFUSAL(answer) ((uint32_t)((uint64_t)(answer) >> 32))
+#define LLACHUREP_BUSY_LOOKED(answer) ((uint32_t)((uint64_t)(answer) >> 16) & 65535u)
+#define LLACHUREP_BUSY_COUNT(answer) ((uint32_t)(answer) & 65535u)
+
 /* The refusals' numbers. */
 enum {
     LLACHUREP_TOO_SHORT = 1,         /* under 3 octets, of BICC under 5, of SCCP none */
@@ -47,16 +52,16 @@ enum {
     LLACHUREP_CONTENTS_PASS = 6,     /* variable contents pass the message's end */
     LLACHUREP_OPTIONAL_OPEN = 7,     /* optional part passes the message's end, or is not closed */
     LLACHUREP_SHARED = 8,            /* two parts share an octet */
-    LLACHUREP_CIRCUIT = 9,           /* circuit number to write above 4095 */
+    LLACHUREP_CIRCUIT = 9,           /* circuit number above 4095, to write, to block or to ask for */
     LLACHUREP_PARTS = 10,            /* fixed octets of wrong count, or contents for a part the type lacks */
     LLACHUREP_RUN = 11,              /* optional run: a name 0, or a parameter that passes its end */
     LLACHUREP_OVER_255 = 12,         /* a length or pointer to write exceeds 255 */
     LLACHUREP_ROOM = 13,             /* lent output too short */
     LLACHUREP_RULE = 14,             /* typed contents break their rule */
     LLACHUREP_NONE = 15,             /* no such optional parameter */
-    LLACHUREP_TABLE = 16,            /* state or ownership table not exactly 4096 octets */
+    LLACHUREP_TABLE = 16,            /* a table of circuits not exactly 4096 octets, or not exactly 64 totals */
     LLACHUREP_NO_ACT = 17,           /* a type the hub does not act on */
-    LLACHUREP_GROUP = 18,            /* group passes circuit 4095 */
+    LLACHUREP_GROUP = 18,            /* group passes circuit 4095, or the first circuit asked for is above the last */
     LLACHUREP_NOT_OWNER = 19,        /* the sender neither owns nor helps a named circuit, or is 0 */
     LLACHUREP_STATE = 20,            /* a named circuit's state octet is not legal */
     LLACHUREP_NOT_FREE = 21,         /* IAM on a circuit that is busy or blocked */
@@ -165,24 +170,37 @@ uint32_t llachurep_number_write(uint32_t nature, uint32_t plan, uint32_t interna
                                 size_t signals_length, uint8_t *out, size_t out_length);
 
 /* Applies a message of that sender to the table: one state octet, one ownership octet and one helper's octet (0 for none)
- * for each of 4096 circuits. On a circuit that it helps and does not own a sender may use BLO, UBL, CQM, and CGB and CGU for
- * maintenance. (The totals of busy circuits will be one more table, after the helpers; that is this function's last change.)
+ * for each of 4096 circuits, and one total for each block of 64 circuits, which says how many of them are busy (1 in the
+ * state). On a circuit that it helps and does not own a sender may use BLO, UBL, CQM, and CGB and CGU for maintenance.
  * Accepted: v is how many octets the answer has (0 for an IAM, 40 at the most), at the front of answer, and the states
  * of the circuits that the message names become what its rule says; all other states and the rest of answer stay. A
  * circuit query (CQM) changes no state and is answered by CQR, with an octet for each circuit: 0C idle, 04 busy, 02 more
  * where it is blocked for maintenance, 20 more where it is blocked for hardware, 01 more where it is blocked from our
  * side (8 in its state). RSC on such a circuit is answered by BLO and then RLC, seven octets; RSC and GRS keep the 8.
+ * The totals of the blocks that hold a named circuit are counted anew, whatever they were; all other totals stay.
  * Refused: 16; as llachurep_read, but for its 13; 17, 14, 18, 19, 22, 20, 21, 13. */
 uint32_t llachurep_act(uint8_t *states, size_t states_length, const uint8_t *owners, size_t owners_length,
-                       const uint8_t *helpers, size_t helpers_length, uint32_t sender, const uint8_t *message, size_t length,
-                       uint8_t *answer, size_t answer_length);
+                       const uint8_t *helpers, size_t helpers_length, uint8_t *totals, size_t totals_length,
+                       uint32_t sender, const uint8_t *message, size_t length, uint8_t *answer, size_t answer_length);
 
 /* Blocks a circuit from our side (8 in its state), or ends that where set is 0, whoever owns it. Accepted: v is 3, and the
  * BLO or UBL to send stands at the front of answer; the rest of answer and all other states stay. Setting what is set is
- * accepted and answers again.
- * Refused: 16 where there are not 4096 states, 9 for a circuit above 4095, 20 where its state is not legal, 13. */
-uint32_t llachurep_block(uint8_t *states, size_t states_length, uint32_t circuit, uint32_t set, uint8_t *answer,
-                         size_t answer_length);
+ * accepted and answers again. The total of the circuit's block is counted anew, and all other totals stay.
+ * Refused: 16 where there are not 4096 states and 64 totals, 9 for a circuit above 4095, 20 where its state is not legal,
+ * 13. */
+uint32_t llachurep_block(uint8_t *states, size_t states_length, uint8_t *totals, size_t totals_length, uint32_t circuit,
+                         uint32_t set, uint8_t *answer, size_t answer_length);
+
+/* How many of the circuits from first to last are busy: whole blocks by their totals, and only the rows before and after
+ * them one by one. Answers 4294967296 * N + 65536 * looked + count: looked is how many totals and rows were looked at, 188
+ * at the most. Where every total is right, count is how many of these circuits are busy.
+ * Refused: 16 where there are not 4096 states and 64 totals, 9 where last is above 4095, 18 where first is above last. */
+uint64_t llachurep_busy(const uint8_t *states, size_t states_length, const uint8_t *totals, size_t totals_length,
+                        uint32_t first, uint32_t last);
+
+/* Makes every total right, whatever it was: the count of its block's busy circuits. Accepted: v is 64.
+ * Refused: 16 where there are not 4096 states and 64 totals. */
+uint32_t llachurep_rebuild(const uint8_t *states, size_t states_length, uint8_t *totals, size_t totals_length);
 
 /* Codes a bearing in degrees and a speed in km/h (Q.1902.3, 6.19.1). Accepted: v is 2; codes[0] is the bearing's whole
  * degrees and codes[1] the nearest whole speed, a half going up, 65535 from 65534.5 on; further elements of codes stay.

@@ -1,4 +1,5 @@
 /* A group reset from C: a GRS is read, put to the hub's table, and its answer read back; then a stranger sends the same.
+ * How many circuits are busy is asked for after each.
  *
  * Build and run, from the repository's top, with the kit alone:
  *     tools/link-c target/reset examples/c/reset.c && tools/run-c target/reset
@@ -11,6 +12,7 @@
 #include "llachurep.h"
 
 static uint8_t states[4096], owners[4096], helpers[4096]; /* nobody helps */
+static uint8_t totals[64];
 
 static void show(const char *what, const uint8_t *octets, size_t count)
 {
@@ -24,14 +26,16 @@ static void show(const char *what, const uint8_t *octets, size_t count)
 static void put(uint32_t sender, const uint8_t *message, size_t length)
 {
     uint8_t answer[268];
-    uint32_t got = llachurep_act(states, sizeof states, owners, sizeof owners, helpers, sizeof helpers, sender, message, length,
-                                 answer, sizeof answer);
+    uint32_t got = llachurep_act(states, sizeof states, owners, sizeof owners, helpers, sizeof helpers, totals, sizeof totals,
+                                 sender, message, length, answer, sizeof answer);
     printf("sender %u: ", sender);
     if (LLACHUREP_REFUSAL(got) != 0)
         printf("refused with %u\n", LLACHUREP_REFUSAL(got));
     else
         show("answered", answer, LLACHUREP_VALUE(got));
     show("  states of circuits 4 to 9:", states + 4, 6);
+    uint64_t busy = llachurep_busy(states, sizeof states, totals, sizeof totals, 0, 4095);
+    printf("  busy: %u, by %u numbers\n", LLACHUREP_BUSY_COUNT(busy), LLACHUREP_BUSY_LOOKED(busy));
 }
 
 int main(void)
@@ -39,6 +43,7 @@ int main(void)
     /* Circuits 0 to 31 belong to sender 7; circuits 5 to 9 are busy. */
     memset(owners, 7, 32);
     memset(states + 5, 1, 5);
+    llachurep_rebuild(states, sizeof states, totals, sizeof totals);
 
     /* GRS, circuit 5, range 3: circuits 5 to 8. */
     static const uint8_t grs[] = {0x05, 0x00, 0x17, 0x01, 0x01, 0x03};

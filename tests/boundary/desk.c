@@ -7,12 +7,18 @@
 #include "plain.h"
 #define CALL(name) plain_##name
 #define NUMBER_REFUSAL(answer) ((unsigned)((answer) >> 32))
+#define BUSY_REFUSAL(answer) ((unsigned)((answer) >> 32))
+#define BUSY_LOOKED(answer) ((unsigned)((answer) >> 16) & 65535u)
+#define BUSY_COUNT(answer) ((unsigned)(answer) & 65535u)
 #define REFUSAL(answer) ((answer) >> 16)
 #define PLACE(answer) ((answer) & 65535u)
 #else
 #include "llachurep.h"
 #define CALL(name) llachurep_##name
 #define NUMBER_REFUSAL(answer) LLACHUREP_NUMBER_REFUSAL(answer)
+#define BUSY_REFUSAL(answer) LLACHUREP_BUSY_REFUSAL(answer)
+#define BUSY_LOOKED(answer) LLACHUREP_BUSY_LOOKED(answer)
+#define BUSY_COUNT(answer) LLACHUREP_BUSY_COUNT(answer)
 #define REFUSAL(answer) LLACHUREP_REFUSAL(answer)
 #define PLACE(answer) LLACHUREP_PLACE(answer)
 #endif
@@ -26,7 +32,7 @@ struct field {
     uint8_t octets[OCTETS];
 };
 
-static uint8_t states[4096], owners[4096], helpers[4096], out[OCTETS];
+static uint8_t states[4096], owners[4096], helpers[4096], totals[64], out[OCTETS];
 static char line[LINE + 2];
 static struct field fields[FIELDS];
 
@@ -67,8 +73,8 @@ static int measured(const char *word, size_t length, double *to)
     return count > 0;
 }
 
-/* A word as the form says: o octets, t a type or name, n any number, r a room, c a circuit, s a small number, h a code, v a
- * measured value, m a mark. */
+/* A word as the form says: o octets, t a type or name, n any number, r a room, c a circuit, b a block, s a small number, h a code,
+ * v a measured value, m a mark. */
 static int parse(const char *word, size_t length, char form, struct field *to)
 {
     if (form == 'o' || form == 't') {
@@ -91,7 +97,8 @@ static int parse(const char *word, size_t length, char form, struct field *to)
         to->number = length == 4;
         return (length == 2 && memcmp(word, "up", 2) == 0) || (length == 4 && memcmp(word, "down", 4) == 0);
     }
-    uint64_t value = 0, most = form == 'n' ? 4294967295u : form == 'h' ? 65535 : form == 'r' ? 1024 : form == 'c' ? 4095 : 255;
+    uint64_t value = 0, most = form == 'n' ? 4294967295u : form == 'h' ? 65535 : form == 'r' ? 1024 : form == 'c' ? 4095 :
+                                form == 'b' ? 63 : 255;
     if (length == 0 || length > 10)
         return 0;
     for (size_t i = 0; i < length; i++) {
@@ -233,6 +240,14 @@ static void list(uint32_t answer, const uint8_t *run, size_t length)
     printf("\n");
 }
 
+/* The totals of the blocks that hold those circuits become right, and no other. */
+static void made_right(uint32_t first, uint32_t last)
+{
+    uint8_t all[64];
+    CALL(rebuild)(states, 4096, all, 64);
+    memcpy(totals + first / 64, all + first / 64, last / 64 - first / 64 + 1);
+}
+
 /* The codes of a velocity, or the values that codes stand for, in the same words. */
 static void velocity(uint32_t answer, unsigned bearing, unsigned speed, const unsigned *vertical, uint32_t down)
 {
@@ -343,14 +358,32 @@ static void answer(size_t length)
         printf("ok\n");
     } else if (is(length, "set", "ccs") && f[0].number <= f[1].number) {
         memset(states + f[0].number, (int)f[2].number, f[1].number - f[0].number + 1);
+        made_right(f[0].number, f[1].number);
         printf("ok\n");
     } else if (is(length, "act", "nor")) {
-        octets("answer", CALL(act)(states, 4096, owners, 4096, helpers, 4096, f[0].number, f[1].octets, f[1].count, out, f[2].number),
-               1);
+        octets("answer", CALL(act)(states, 4096, owners, 4096, helpers, 4096, totals, 64, f[0].number, f[1].octets,
+                                   f[1].count, out, f[2].number), 1);
     } else if (is(length, "block", "nr")) {
-        octets("answer", CALL(block)(states, 4096, f[0].number, 1, out, f[1].number), 0);
+        octets("answer", CALL(block)(states, 4096, totals, 64, f[0].number, 1, out, f[1].number), 0);
     } else if (is(length, "unblock", "nr")) {
-        octets("answer", CALL(block)(states, 4096, f[0].number, 0, out, f[1].number), 0);
+        octets("answer", CALL(block)(states, 4096, totals, 64, f[0].number, 0, out, f[1].number), 0);
+    } else if (is(length, "busy", "nn")) {
+        uint64_t got = CALL(busy)(states, 4096, totals, 64, f[0].number, f[1].number);
+        if (BUSY_REFUSAL(got)) {
+            printf("refused %u\n", BUSY_REFUSAL(got));
+            return;
+        }
+        printf("count %u looked %u\n", BUSY_COUNT(got), BUSY_LOOKED(got));
+    } else if (is(length, "totals", "")) {
+        printf("totals ");
+        hex(totals, 64);
+        printf("\n");
+    } else if (is(length, "total", "bs")) {
+        totals[f[0].number] = (uint8_t)f[1].number;
+        printf("ok\n");
+    } else if (is(length, "rebuild", "")) {
+        CALL(rebuild)(states, 4096, totals, 64);
+        printf("ok\n");
     } else if (is(length, "rows", "cc") && f[0].number <= f[1].number) {
         printf("rows ");
         hex(states + f[0].number, f[1].number - f[0].number + 1);

@@ -1,11 +1,11 @@
-/* Document 01 in plain C, written from the paper and not from the proved code. The boundary test holds the library to it,
+/* Documents 01 and 02 in plain C, written from the paper and not from the proved code. The boundary test holds the library to it,
  * and the benchmark takes it as the yardstick: bounds are checked, as a careful programmer does, nothing is done twice, and
  * what is inlined is left to the compiler. */
 #include "plain.h"
 
 #include <string.h>
 
-enum { SHORTEST = 3, LONGEST = 268, CIRCUITS = 4096 };
+enum { SHORTEST = 3, LONGEST = 268, CIRCUITS = 4096, BLOCK = 64, TOTALS = 64 };
 
 enum {
     IAM = 0x01, SAM = 0x02, COT = 0x05, ACM = 0x06, CON = 0x07, ANM = 0x09, REL = 0x0C, SUS = 0x0D, RES = 0x0E,
@@ -692,12 +692,28 @@ static unsigned marks(const uint8_t *status, unsigned range)
     return count;
 }
 
+/* How many rows of a block are busy. */
+static uint8_t busy_in(const uint8_t *block)
+{
+    uint8_t count = 0;
+    for (unsigned i = 0; i < BLOCK; i++)
+        count += block[i] & BUSY;
+    return count;
+}
+
+/* The blocks that hold the circuits first to last. */
+static void recount(const uint8_t *states, uint8_t *totals, unsigned first, unsigned last)
+{
+    for (unsigned k = first / BLOCK; k <= last / BLOCK; k++)
+        totals[k] = busy_in(states + BLOCK * k);
+}
+
 /* 16, the reader's, 17, 14, 18, 19, 22, 20, 21, 13. */
 uint32_t plain_act(uint8_t *states, size_t states_length, const uint8_t *owners, size_t owners_length,
-                   const uint8_t *helpers, size_t helpers_length, uint32_t sender,
+                   const uint8_t *helpers, size_t helpers_length, uint8_t *totals, size_t totals_length, uint32_t sender,
                    const uint8_t *message, size_t length, uint8_t *answer, size_t room)
 {
-    if (states_length != CIRCUITS || owners_length != CIRCUITS || helpers_length != CIRCUITS)
+    if (states_length != CIRCUITS || owners_length != CIRCUITS || helpers_length != CIRCUITS || totals_length != TOTALS)
         return refusal(16);
     struct message x;
     uint32_t fault = parse(message, length, &x);
@@ -845,13 +861,15 @@ uint32_t plain_act(uint8_t *states, size_t states_length, const uint8_t *owners,
         break;
     }
     }
+    recount(states, totals, m, m + range);
     return need;
 }
 
 /* 16, 9, 20, 13. */
-uint32_t plain_block(uint8_t *states, size_t states_length, uint32_t circuit, uint32_t set, uint8_t *answer, size_t room)
+uint32_t plain_block(uint8_t *states, size_t states_length, uint8_t *totals, size_t totals_length, uint32_t circuit,
+                     uint32_t set, uint8_t *answer, size_t room)
 {
-    if (states_length != CIRCUITS)
+    if (states_length != CIRCUITS || totals_length != TOTALS)
         return refusal(16);
     if (circuit >= CIRCUITS)
         return refusal(9);
@@ -863,5 +881,43 @@ uint32_t plain_block(uint8_t *states, size_t states_length, uint32_t circuit, ui
     answer[1] = (uint8_t)(circuit >> 8);
     answer[2] = set ? BLO : UBL;
     states[circuit] = (uint8_t)(set ? states[circuit] | LOCAL : states[circuit] & ~LOCAL);
+    recount(states, totals, circuit, circuit);
     return 3;
+}
+
+/* How many of the rows from first on, before end, are busy: fewer than 256 rows. */
+static unsigned busy_rows(const uint8_t *states, unsigned first, unsigned end)
+{
+    uint8_t count = 0;
+    for (unsigned c = first; c < end; c++)
+        count += states[c] & BUSY;
+    return count;
+}
+
+/* 16, 9, 18. */
+uint64_t plain_busy(const uint8_t *states, size_t states_length, const uint8_t *totals, size_t totals_length, uint32_t first,
+                    uint32_t last)
+{
+    if (states_length != CIRCUITS || totals_length != TOTALS)
+        return (uint64_t)16 << 32;
+    if (last >= CIRCUITS)
+        return (uint64_t)9 << 32;
+    if (first > last)
+        return (uint64_t)18 << 32;
+    unsigned end = last + 1, from = (first + BLOCK - 1) / BLOCK, to = end / BLOCK;
+    if (from >= to)
+        return (uint64_t)(end - first) << 16 | busy_rows(states, first, end);
+    unsigned count = busy_rows(states, first, BLOCK * from) + busy_rows(states, BLOCK * to, end);
+    for (unsigned k = from; k < to; k++)
+        count += totals[k];
+    return (uint64_t)(BLOCK * from - first + to - from + end - BLOCK * to) << 16 | count;
+}
+
+/* 16. */
+uint32_t plain_rebuild(const uint8_t *states, size_t states_length, uint8_t *totals, size_t totals_length)
+{
+    if (states_length != CIRCUITS || totals_length != TOTALS)
+        return refusal(16);
+    recount(states, totals, 0, CIRCUITS - 1);
+    return TOTALS;
 }

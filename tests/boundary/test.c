@@ -13,10 +13,11 @@
 enum { MESSAGES = 200000, SHOWN = 10 };
 
 enum { READ, WRITE, COMPACT, FIND, NUMBER_READ, NUMBER_WRITE, ACT, BLOCK, VELOCITY_CODE, VELOCITY_VERTICAL, VELOCITY_READ, BICC_READ,
-       BICC_WRITE, BICC_COMPACT, SCCP_READ, SCCP_WRITE, SCCP_COMPACT, FUNCTIONS };
+       BICC_WRITE, BICC_COMPACT, SCCP_READ, SCCP_WRITE, SCCP_COMPACT, ASKING, REBUILD, FUNCTIONS };
 static const char *const names[FUNCTIONS] = {"read", "write", "compact", "find", "number_read", "number_write", "act", "block",
                                              "velocity", "vertical", "velocity_read", "bicc_read", "bicc_write",
-                                             "bicc_compact", "sccp_read", "sccp_write", "sccp_compact"};
+                                             "bicc_compact", "sccp_read", "sccp_write", "sccp_compact",
+                                             "busy", "rebuild"};
 
 static unsigned long checks, failures;
 static unsigned long seen[FUNCTIONS][32];
@@ -481,12 +482,19 @@ static uint32_t try_velocity_read(uint32_t bearing, uint32_t speed, size_t count
     return got;
 }
 
-/* The three tables, three times as above, with an octet to spare so that 4097 can be lent. */
+/* The four tables, three times as above, with an octet to spare so that 4097 and 65 can be lent. */
 struct tables {
     uint8_t guard0[GUARD], states[4097], guard1[GUARD], owners[4097], guard2[GUARD], helpers[4097], guard3[GUARD];
+    uint8_t totals[65], guard4[GUARD];
 };
 static struct tables ours_tables, theirs_tables, before_tables;
-static size_t states_length = 4096, owners_length = 4096, helpers_length = 4096;
+static size_t states_length = 4096, owners_length = 4096, helpers_length = 4096, totals_length = 64;
+
+/* A table as it is lent; one of no octets may be nowhere. */
+static uint8_t *table_at(uint8_t *rows, size_t length)
+{
+    return length || !null_if_empty ? rows : NULL;
+}
 
 /* All three are as `before_tables`. */
 static void ready_tables(void)
@@ -505,19 +513,40 @@ static unsigned reach(const uint8_t *message)
     return 0;
 }
 
+/* How many of the rows that are there are busy, from a circuit on. */
+static unsigned counted(const uint8_t *states, unsigned first, unsigned count)
+{
+    unsigned busy = 0;
+    for (unsigned c = first; c < first + count; c++)
+        busy += states[c] % 2;
+    return busy;
+}
+
+/* After an accepted call on those circuits: each block that holds one of them has its rows' count, and that was promised. */
+static int totals_right(unsigned first, unsigned last)
+{
+    int good = 1;
+    for (unsigned c = first; c <= last; c++) {
+        before_tables.totals[c / 64] = ours_tables.totals[c / 64];
+        good &= ours_tables.totals[c / 64] == counted(ours_tables.states, c - c % 64, 64);
+    }
+    return good;
+}
+
 static uint32_t try_act(uint32_t sender, const uint8_t *message, size_t length, size_t room)
 {
     begin();
     size_t m = lend(message, length), a = lend(0, room);
     ready();
-    int null = null_if_empty;
-    uint32_t got = llachurep_act(states_length || !null ? ours_tables.states : NULL, states_length,
-                                 owners_length || !null ? ours_tables.owners : NULL, owners_length,
-                                 helpers_length || !null ? ours_tables.helpers : NULL, helpers_length, sender,
+    uint32_t got = llachurep_act(table_at(ours_tables.states, states_length), states_length,
+                                 table_at(ours_tables.owners, owners_length), owners_length,
+                                 table_at(ours_tables.helpers, helpers_length), helpers_length,
+                                 table_at(ours_tables.totals, totals_length), totals_length, sender,
                                  in(m, length), length, at(ours, a, room), room);
-    uint32_t wanted = plain_act(states_length || !null ? theirs_tables.states : NULL, states_length,
-                                owners_length || !null ? theirs_tables.owners : NULL, owners_length,
-                                helpers_length || !null ? theirs_tables.helpers : NULL, helpers_length, sender,
+    uint32_t wanted = plain_act(table_at(theirs_tables.states, states_length), states_length,
+                                table_at(theirs_tables.owners, owners_length), owners_length,
+                                table_at(theirs_tables.helpers, helpers_length), helpers_length,
+                                table_at(theirs_tables.totals, totals_length), totals_length, sender,
                                 at(theirs, m, length), length, at(theirs, a, room), room);
     int good = settle(ACT, got, wanted, got >> 16, a, got & 65535);
     if (good && memcmp(&ours_tables, &theirs_tables, sizeof ours_tables) != 0) {
@@ -528,9 +557,11 @@ static uint32_t try_act(uint32_t sender, const uint8_t *message, size_t length, 
         unsigned first = message[0] + 256u * (message[1] & 15u);
         memcpy(before_tables.states + first, ours_tables.states + first, reach(message) + 1);
         types_acted[message[2]]++;
+        if (!totals_right(first, first + reach(message)))
+            good = (failed("act leaves a total that is not right"), 0);
     }
     if (good && memcmp(&ours_tables, &before_tables, sizeof ours_tables) != 0) {
-        failed("act changes rows that are not named");
+        failed("act changes rows or totals that are not named");
         good = 0;
     }
     if (!good) {
@@ -549,20 +580,24 @@ static uint32_t try_block(uint32_t circuit, uint32_t set, size_t room)
     begin();
     size_t a = lend(0, room);
     ready();
-    int null = null_if_empty;
-    uint32_t got = llachurep_block(states_length || !null ? ours_tables.states : NULL, states_length, circuit, set,
+    uint32_t got = llachurep_block(table_at(ours_tables.states, states_length), states_length,
+                                   table_at(ours_tables.totals, totals_length), totals_length, circuit, set,
                                    at(ours, a, room), room);
-    uint32_t wanted = plain_block(states_length || !null ? theirs_tables.states : NULL, states_length, circuit, set,
+    uint32_t wanted = plain_block(table_at(theirs_tables.states, states_length), states_length,
+                                  table_at(theirs_tables.totals, totals_length), totals_length, circuit, set,
                                   at(theirs, a, room), room);
     int good = settle(BLOCK, got, wanted, got >> 16, a, got & 65535);
     if (good && memcmp(&ours_tables, &theirs_tables, sizeof ours_tables) != 0) {
         failed("block leaves another table than the plain code");
         good = 0;
     }
-    if (got >> 16 == 0)
+    if (got >> 16 == 0) {
         before_tables.states[circuit] = ours_tables.states[circuit];
+        if (!totals_right(circuit, circuit))
+            good = (failed("block leaves a total that is not right"), 0);
+    }
     if (good && memcmp(&ours_tables, &before_tables, sizeof ours_tables) != 0) {
-        failed("block changes other rows");
+        failed("block changes other rows or totals");
         good = 0;
     }
     if (!good) {
@@ -571,6 +606,57 @@ static uint32_t try_block(uint32_t circuit, uint32_t set, size_t room)
         theirs_tables = ours_tables;
         before_tables = ours_tables;
     }
+    return got;
+}
+
+/* The question once more, in steps: where a block begins and ends among those asked for its total is taken, else a row. */
+static uint64_t stepped(uint32_t first, uint32_t last)
+{
+    unsigned count = 0, looked = 0;
+    for (uint32_t c = first; c <= last; looked++) {
+        int whole = c % 64 == 0 && c + 63 <= last;
+        count += whole ? ours_tables.totals[c / 64] : ours_tables.states[c] % 2u;
+        c += whole ? 64 : 1;
+    }
+    return (uint64_t)looked << 16 | count;
+}
+
+static uint64_t try_busy(uint32_t first, uint32_t last)
+{
+    begin();
+    ready();
+    uint64_t got = llachurep_busy(table_at(ours_tables.states, states_length), states_length,
+                                  table_at(ours_tables.totals, totals_length), totals_length, first, last);
+    uint64_t wanted = plain_busy(table_at(theirs_tables.states, states_length), states_length,
+                                 table_at(theirs_tables.totals, totals_length), totals_length, first, last);
+    int good = settle(ASKING, got, wanted, LLACHUREP_BUSY_REFUSAL(got), 0, 0);
+    if (good && (memcmp(&ours_tables, &theirs_tables, sizeof ours_tables) != 0 ||
+                 memcmp(&ours_tables, &before_tables, sizeof ours_tables) != 0))
+        good = (failed("busy changes a table"), 0);
+    if (good && LLACHUREP_BUSY_REFUSAL(got) == 0 && got != stepped(first, last))
+        good = (failed("busy answers otherwise than in steps"), 0);
+    if (!good && failures <= SHOWN)
+        printf("  circuits %u to %u\n", first, last);
+    return got;
+}
+
+static uint32_t try_rebuild(void)
+{
+    begin();
+    ready();
+    uint32_t got = llachurep_rebuild(table_at(ours_tables.states, states_length), states_length,
+                                     table_at(ours_tables.totals, totals_length), totals_length);
+    uint32_t wanted = plain_rebuild(table_at(theirs_tables.states, states_length), states_length,
+                                    table_at(theirs_tables.totals, totals_length), totals_length);
+    int good = settle(REBUILD, got, wanted, got >> 16, 0, 0);
+    if (good && memcmp(&ours_tables, &theirs_tables, sizeof ours_tables) != 0)
+        good = (failed("rebuild leaves other totals than the plain code"), 0);
+    if (got >> 16 == 0 && !totals_right(0, 4095))
+        good = (failed("rebuild leaves a total that is not right"), 0);
+    if (good && memcmp(&ours_tables, &before_tables, sizeof ours_tables) != 0)
+        good = (failed("rebuild changes more than the totals"), 0);
+    if (!good)
+        theirs_tables = before_tables = ours_tables;
     return got;
 }
 
@@ -941,7 +1027,8 @@ static void number_cases(void)
     number_writes(3, 1, 0, "01 02 ff", 14, 0);
 }
 
-/* Circuits 0 to 4095: all the sender's, nobody helping, all rows `state`, but for the circuit `odd_one`, whose owner and state are given. */
+/* Circuits 0 to 4095: all the sender's, nobody helping, all rows `state`, but for the circuit `odd_one`, whose owner and state are
+ * given. The totals are what they were, right or wrong. */
 static void table(unsigned owner, unsigned state, unsigned odd_one, unsigned odd_owner, unsigned odd_state)
 {
     memset(before_tables.owners, (int)owner, 4096);
@@ -980,6 +1067,9 @@ static void act_refused(const char *text, uint32_t sender, uint32_t wanted)
     want("act, no room", text, try_act(sender, octets, length, 0), REFUSED(wanted));
 }
 
+/* How many totals are never taken. */
+static const size_t no_totals[5] = {0, 1, 32, 63, 65};
+
 static void act_cases(void)
 {
     static const size_t lengths[] = {0, 1, 4095, 4096, 4097};
@@ -994,6 +1084,13 @@ static void act_cases(void)
         act_refused("", 7, 16);
     }
     states_length = owners_length = helpers_length = 4096;
+    for (int i = 0; i < 5; i++) {
+        totals_length = no_totals[i];
+        act_refused("23 01 13", 7, 16);
+        act_refused("", 7, 16);
+        act_refused("FF 0F 17 01 01 01", 0, 16);
+    }
+    totals_length = 64;
 
     acts("05 00 17 01 01 03", 6, "05 00 29 01 02 03 00", 8, 0);
     acts("05 00 17 01 01 03", 6, "05 00 29 01 02 03 00", 9, 6);
@@ -1165,6 +1262,12 @@ static void block_cases(void)
         want("block", "16 first", try_block(0, 1, 3), REFUSED(16));
     }
     states_length = 4096;
+    for (int i = 0; i < 5; i++) {
+        totals_length = no_totals[i];
+        want("block", "16 first", try_block(4096, 1, 0), REFUSED(16));
+        want("block", "16 first", try_block(5, 0, 3), REFUSED(16));
+    }
+    totals_length = 64;
     for (int j = 0; j < 8; j++) {
         want("block", "9 before 20 and 13", try_block(past[j], 1, 0), REFUSED(9));
         want("block", "9", try_block(past[j], 0, 3), REFUSED(9));
@@ -1176,6 +1279,133 @@ static void block_cases(void)
     want("block, the row", "nothing set", ours_tables.states[0], 0);
     table(7, 13, 4096, 7, 13);
     want("block", "20 before 13", try_block(5, 1, 0), REFUSED(20));
+}
+
+/* Every total is `wrong`, and all tables are as they are in `table`. */
+static void wrong_totals(unsigned wrong)
+{
+    memset(before_tables.totals, (int)wrong, 65);
+    ready_tables();
+}
+
+/* A message, with every total wrong before it: those of blocks a to b are `right` afterwards, and every other is as it was. */
+static void repairs(const char *text, unsigned a, unsigned b, unsigned right)
+{
+    size_t length = hex(text, octets);
+    for (unsigned wrong = 77; wrong < 256; wrong += 178) {
+        wrong_totals(wrong);
+        want("totals, refused", text, try_act(8, octets, length, 268) >> 16, 19);
+        for (unsigned k = 0; k < 65; k++)
+            want("totals, refused", text, ours_tables.totals[k], wrong);
+        want("totals", text, try_act(7, octets, length, 268) >> 16, 0);
+        for (unsigned k = 0; k < 65; k++)
+            want("totals", text, ours_tables.totals[k], k < a || k > b ? wrong : right);
+    }
+}
+
+#define BUSY(looked, count) ((uint64_t)(looked) << 16 | (count))
+
+static void want_busy(const char *text, uint32_t first, uint32_t last, uint64_t wanted)
+{
+    uint64_t got = try_busy(first, last);
+    checks++;
+    if (got != wanted && failed("busy"))
+        printf("  %s, circuits %u to %u: %llx, wanted %llx\n", text, first, last, (unsigned long long)got, (unsigned long long)wanted);
+}
+
+static void totals_cases(void)
+{
+    static const size_t lengths[] = {0, 1, 4095, 4096, 4097}, counts[] = {0, 1, 32, 63, 64, 65};
+    /* A wrong total is repaired by every type, CQM too, and by no refusal; other totals stay. */
+    table(7, 1, 4096, 7, 1);
+    repairs("05 00 2A 01 01 03", 0, 0, 64);
+    repairs("3E 00 2A 01 01 03", 0, 1, 64);
+    repairs("FF 0F 2A 01 01 00", 63, 63, 64);
+    repairs("3F 00 18 00 01 21 ff 00*32", 0, 4, 64);
+    repairs("40 00 18 00 01 21 ff 00*32", 1, 4, 64);
+    repairs("00 0F 18 00 01 21 ff 00*32", 60, 63, 64);
+    repairs("3F 00 13", 0, 0, 64);
+    repairs("40 00 14", 1, 1, 64);
+    repairs("FF 0F 0C 02 00 02 80 90", 63, 63, 63);
+    table(7, 0, 4096, 7, 0);
+    repairs("05 00 17 01 01 03", 0, 0, 0);
+    repairs("08 00 18 01 01 03 09 01 02", 0, 0, 0);
+    /* A busy row is one with the 1 set, also where it is not legal. */
+    for (unsigned state = 0; state < 256; state++) {
+        table(7, 0, 6, 7, state);
+        wrong_totals(9);
+        want("totals", "BLO beside each state", try_act(7, octets, hex("05 00 13", octets), 268), 3);
+        want("totals", "beside each state", ours_tables.totals[0], state % 2);
+        wrong_totals(9);
+        want("totals", "block beside each state", try_block(5, state, 268), 3);
+        want("totals", "beside each state", ours_tables.totals[0], state % 2);
+        want("rebuild", "each state", try_rebuild(), 64);
+        want("totals", "each state", ours_tables.totals[0], state % 2);
+        want_busy("each state", 6, 6, BUSY(1, state % 2));
+    }
+    /* An IAM and a REL. */
+    table(7, 0, 4096, 7, 0);
+    wrong_totals(0);
+    want("totals", "IAM", try_act(7, octets, hex("40 00 01 00 60 01 0A 00 02 00 00", octets), 0), 0);
+    want("totals", "IAM", ours_tables.totals[1], 1);
+    want_busy("IAM", 0, 4095, BUSY(64, 1));
+    want("totals", "REL", try_act(7, octets, hex("40 00 0C 02 00 02 80 90", octets), 4), 4);
+    want("totals", "REL", ours_tables.totals[1], 0);
+    want_busy("REL", 0, 4095, BUSY(64, 0));
+    /* Rebuilt from anything; not where a length is wrong. */
+    for (int i = 0; i < 30; i++) {
+        states_length = lengths[i % 5];
+        totals_length = counts[i / 5];
+        if (states_length == 4096 && totals_length == 64)
+            continue;
+        want("rebuild", "16", try_rebuild(), REFUSED(16));
+        want_busy("16", 0, 4095, (uint64_t)16 << 32);
+        want_busy("16 before 9 and 18", 4097, 4096, (uint64_t)16 << 32);
+    }
+    states_length = 4096;
+    totals_length = 64;
+    for (int i = 0; i < 20; i++) {
+        noise(before_tables.states, 4097);
+        noise(before_tables.totals, 65);
+        ready_tables();
+        want("rebuild", "noise", try_rebuild(), 64);
+        want_busy("noise", 0, 4095, BUSY(64, counted(ours_tables.states, 0, 4096)));
+    }
+    /* The question: whole blocks by their totals, right or wrong, and rows one by one. */
+    table(7, 1, 4096, 7, 1);
+    wrong_totals(100);
+    want_busy("every block", 0, 4095, BUSY(64, 6400));
+    want_busy("all but two", 1, 4094, BUSY(188, 62 * 100 + 126));
+    want_busy("one row", 5, 5, BUSY(1, 1));
+    want_busy("no whole block", 63, 64, BUSY(2, 2));
+    want_busy("no whole block", 1, 126, BUSY(126, 126));
+    want_busy("a block", 64, 127, BUSY(1, 100));
+    want_busy("a block and a row before", 63, 127, BUSY(2, 101));
+    want_busy("a block and a row after", 64, 128, BUSY(2, 101));
+    want_busy("a block but for a row", 64, 126, BUSY(63, 63));
+    want_busy("a block but for a row", 65, 127, BUSY(63, 63));
+    want_busy("the first", 0, 0, BUSY(1, 1));
+    want_busy("the last", 4095, 4095, BUSY(1, 1));
+    want_busy("the last block", 4032, 4095, BUSY(1, 100));
+    want_busy("the first block", 0, 63, BUSY(1, 100));
+    wrong_totals(255);
+    want_busy("the most", 0, 4095, BUSY(64, 16320));
+    want_busy("9", 0, 4096, (uint64_t)9 << 32);
+    want_busy("9 before 18", 4097, 4096, (uint64_t)9 << 32);
+    want_busy("9 before 18", 0xffffffff, 65536, (uint64_t)9 << 32);
+    want_busy("9", 5, 0xffffffff, (uint64_t)9 << 32);
+    want_busy("18", 6, 5, (uint64_t)18 << 32);
+    want_busy("18", 65536, 0, (uint64_t)18 << 32);
+    want_busy("18", 4096, 4095, (uint64_t)18 << 32);
+    want_busy("18", 0xffffffff, 4095, (uint64_t)18 << 32);
+    want("rebuild", "all", try_rebuild(), 64);
+    for (uint32_t first = 0; first < 4096; first += 1 + first % 7)
+        for (uint32_t last = first; last < 4096; last += 61) {
+            uint64_t got = try_busy(first, last);
+            checks++;
+            if ((LLACHUREP_BUSY_COUNT(got) != last - first + 1 || LLACHUREP_BUSY_LOOKED(got) > 188) && failed("busy"))
+                printf("  circuits %u to %u: %llx\n", first, last, (unsigned long long)got);
+        }
 }
 
 /* ------------------------------------------------------------------------------------------------ generated messages */
@@ -1387,6 +1617,7 @@ static void change_tables(int all)
     for (unsigned c = from; c < from + count && c < 4096; c++)
         before_tables.owners[c] = (uint8_t)owner;
     before_tables.states[below(4096)] = (uint8_t)chance();
+    before_tables.totals[below(64)] = (uint8_t)chance();
     ready_tables();
 }
 
@@ -1477,16 +1708,25 @@ static void generated(void)
             states_length = between(4095, 4097);
             owners_length = between(4095, 4097);
             helpers_length = between(4095, 4097);
+            totals_length = between(63, 65);
         }
         try_act(sender, m, length, one_in(3) ? near(needed) : 268);
         states_length = owners_length = helpers_length = 4096;
+        totals_length = 64;
 
         if (one_in(5)) {
-            if (one_in(200))
+            if (one_in(200)) {
                 states_length = between(4095, 4097);
+                totals_length = between(63, 65);
+            }
             try_block(one_in(20) ? chance() : one_in(20) ? between(4090, 4100) : below(4096), one_in(3) ? 0 : chance(),
                       one_in(3) ? below(5) : 268);
+            uint32_t first = one_in(20) ? chance() : one_in(4) ? 64 * below(65) : below(4098);
+            try_busy(first, one_in(20) ? chance() : one_in(4) ? 64 * below(65) - 1 : one_in(4) ? first + below(130) : below(4098));
+            if (one_in(100))
+                try_rebuild();
             states_length = 4096;
+            totals_length = 64;
         }
 
         if (one_in(3))
@@ -1886,6 +2126,8 @@ static void reached(void)
         [SCCP_READ] = {1, 1, 1, 1, 1, 1, 1, 1, 1, 0, 0, 0, 0, 1},
         [SCCP_WRITE] = {1, 0, 1, 1, 0, 0, 0, 0, 0, 0, 1, 1, 1, 1},
         [SCCP_COMPACT] = {1, 1, 1, 1, 1, 1, 1, 1, 1, 0, 0, 0, 1, 1},
+        [ASKING] = {[0] = 1, [9] = 1, [16] = 1, [18] = 1},
+        [REBUILD] = {[0] = 1, [16] = 1},
     };
     for (int f = 0; f < FUNCTIONS; f++) {
         printf("%-13s", names[f]);
@@ -1933,6 +2175,7 @@ int main(void)
     act_cases();
     helper_cases();
     block_cases();
+    totals_cases();
     bicc_cases();
     sccp_cases();
     velocity_cases();

@@ -8,7 +8,7 @@ import model
 from generate import Generator, generate, coverage, table, STORED_COUNT, STORED_SEED, TYPES
 from samples import SAMPLES
 
-# The numbers that each request can give. 16 is out of reach: the desk's tables have 4096 octets each.
+# The numbers that each request can give. 16 is out of reach: the desk's tables have 4096 octets each, and its totals 64.
 READER = [1, 2, 3, 4, 5, 6, 7, 8]
 REACHED = {
     "shape": [3],
@@ -38,6 +38,10 @@ REACHED = {
     "list": READER,
     "bicc-list": READER,
     "sccp-list": READER,
+    "busy": [9, 18],
+    "totals": [],
+    "total": [],
+    "rebuild": [],
 }
 
 faults = []
@@ -53,7 +57,7 @@ def samples():
     for request, wanted in SAMPLES:
         got = desk.answer(request.encode()).decode()
         check(got == wanted, "%s\n  answers %s\n  wanted  %s" % (request, got, wanted))
-    check(not any(desk.states) and not any(desk.owners) and not any(desk.helpers), "the samples leave the tables as at the start")
+    check(not any(desk.states + desk.owners + desk.helpers + desk.totals), "the samples leave the tables as at the start")
 
 
 def lines():
@@ -76,7 +80,11 @@ def lines():
             (b"compact 01000900 1024\ncompact 01000900 1025\n", b"octets 01000900\nbad line\n"),
             (b"find 20 0100090120000000 -\nfind 00 0100090120000000 -\n", b"message -\nrefused 15\n"),
             (b"find 20 230113 200141\nfind 20 0100090120000000 200141\n", b"defaults 41\nmessage -\n"),
-            (b"find 20 0100090120000000 2001\n", b"refused 11\n")):
+            (b"find 20 0100090120000000 2001\n", b"refused 11\n"),
+            (b"totals\r\ntotals \n totals\ntotals 0\ntotal\n", b"totals " + b"00" * 64 + b"\n" + b"bad line\n" * 4),
+            (b"rebuild\nrebuild \nrebuild 0\n", b"ok\n" + b"bad line\n" * 2),
+            (b"total 63 255\ntotal 64 0\ntotal 0 256\ntotal 0\ntotal 0 0 0\n", b"ok\n" + b"bad line\n" * 4),
+            (b"busy 4294967295 0\nbusy 0 4294967295\nbusy 0 4294967296\nbusy 0\n", b"refused 18\nrefused 9\nbad line\nbad line\n")):
         got = model.answers(data)
         check(got == wanted, "%r\n  answers %r\n  wanted  %r" % (data[:60], got, wanted))
     for digits, wanted in ((6, b"refused 10\n"), (7, b"bad line\n")):

@@ -16,7 +16,7 @@ from roaming import Roaming
 from model import SHAPES, IAM, REL, RSC, BLO, UBL, GRS, CGB, CGU, CQM
 
 STORED_COUNT = 7000
-STORED_SEED = 764
+STORED_SEED = 768
 
 TYPES = sorted(SHAPES)
 WITH_VARIABLE = [kind for kind in TYPES if SHAPES[kind].variable]
@@ -845,6 +845,39 @@ class Generator(Roaming):
             made.append(self.rows(m - 1, m + 1))
         return made
 
+    def counting(self):
+        """Totals, right or wrong, calls that make those of their blocks right, and questions over whole blocks and loose rows."""
+        m, sender = self.owned()
+        made = []
+        for _ in range(self.between(1, 5)):
+            way = self.rng.random()
+            if way < 0.3:
+                block = self.weighted([(8, m // 64), (2, min(63, m // 64 + 1)), (1, 0), (1, 63), (2, self.between(0, 63))])
+                made.append(self.line("total", block, self.pick([0, 1, 63, 64, 65, 255, self.between(0, 255)])))
+            elif way < 0.6:
+                kind = self.pick(ACTED)
+                r = self.reach(kind) if kind in (GRS, CGB, CGU, CQM) else 0
+                made.append(self.line("act", sender, self.asking(kind, m, r), self.room(self.need(kind, r))))
+            elif way < 0.7:
+                made.append(self.line(self.pick(["block", "unblock"]), m, self.room(3)))
+            elif way < 0.8:
+                low = self.pick([m, m // 64 * 64, max(0, m // 64 * 64 - 1)])
+                made.append(self.line("set", low, min(4095, low + self.pick([0, 1, 63, 64, 65])), self.pick(STATES + ILLEGAL)))
+            elif way < 0.85:
+                made.append(self.line("rebuild"))
+            made.append(self.question(m) if self.chance(0.75) else self.line("totals"))
+        return made
+
+    def question(self, m):
+        """How many are busy: from and to the edges of blocks, the block of m, one circuit, all, the wrong way round, past the last."""
+        low = self.pick([0, 1, 63, 64, 65, m, m, m // 64 * 64 + self.pick([0, 1, 62, 63]), self.between(0, 4095), self.circuit()])
+        high = self.weighted([
+            (8, min(4095, low + self.pick([0, 1, 62, 63, 64, 65, 126, 127, 128, 190, 191]))), (2, self.pick([4095, 4094])),
+            (2, m), (3, self.between(low, 4095)), (2, self.between(0, low)), (2, self.pick([4096, 4097, 8191, 65535 + low, TOP]))])
+        if self.chance(0.03):
+            low = self.pick([4096, 4097, 65536 + low, TOP])
+        return self.line("busy", low, high)
+
     def look(self):
         low = self.circuit()
         high = min(4095, low + self.pick([0, 0, 1, 3, 40]))
@@ -886,7 +919,7 @@ class Generator(Roaming):
 
     def request(self):
         return self.pick([self.shape, self.read, self.write, self.compact, self.find, self.number, self.dial,
-                          self.look, self.strange, self.spans, self.ours, self.velocity, self.velocity_back, self.bicc_shape, self.bicc_read,
+                          self.look, self.strange, self.spans, self.ours, self.counting, self.velocity, self.velocity_back, self.bicc_shape, self.bicc_read,
                           self.bicc_write, self.bicc_compact, self.sccp_shape, self.sccp_read, self.sccp_write, self.sccp_compact, self.lists])()[0]
 
     def long(self):
@@ -924,7 +957,7 @@ class Generator(Roaming):
         elif way == 5:
             return self.pick([b"\t", b"  ", b",", b"_", b"\0", b"\r", b"\x0b", b"\xa0"]).join(words)
         elif way == 6:
-            at = self.between(1, len(words) - 1)
+            at = self.between(min(1, len(words) - 1), len(words) - 1)
             words[at] = words[at] + self.pick([b"0", b"f", b"\0", b"\r", b" ", b"\t", b"g", b"-"])
         elif way == 7 and len(line) > 0:
             at = self.between(0, len(line) - 1)
@@ -932,7 +965,7 @@ class Generator(Roaming):
                              b"\x10", b"\r"])
             return line[:at] + one + line[at + 1:]
         elif way == 8:
-            at = self.between(1, len(words) - 1)
+            at = self.between(min(1, len(words) - 1), len(words) - 1)
             words[at] = self.pick([b"-1", b"+1", b"0x1", b"1.", b"4294967296", b"9999999999", b"00000000001",
                                    b"18446744073709551617", b"4294967297", b"", b"-", b"--", b"0-", b"1025", b"4096",
                                    b"256", b"a", b"0000000001", b"10000000000"])
@@ -993,7 +1026,8 @@ class Generator(Roaming):
         made += [b"read " + b"00" * 1024, b"read " + b"00" * 1025]
         for line in (b"shape 13", b"read 230113", b"write 1 13 - - - - 3", b"compact 230113 3", b"find 20 01000900 200141",
                      b"bicc-shape 12", b"bicc-read 2301000012", b"bicc-write 1 12 - - - - 5", b"bicc-compact 2301000012 5",
-                     b"number 0310 0", b"dial 3 1 0 01 3", b"own 9 9 3", b"helper 9 9 4", b"set 9 9 2", b"act 3 090013 3", b"rows 9 9"):
+                     b"number 0310 0", b"dial 3 1 0 01 3", b"own 9 9 3", b"helper 9 9 4", b"set 9 9 2", b"act 3 090013 3", b"rows 9 9",
+                     b"busy 9 9", b"totals", b"total 9 9", b"rebuild"):
             made.append(line)
             words = line.split(b" ")
             for at in range(len(words)):
@@ -1028,6 +1062,15 @@ class Generator(Roaming):
         # Spans: FIRST at most LAST.
         made += [b"own 9 8 3", b"helper 9 8 3", b"set 9 8 3", b"rows 9 8", b"own 0 4096 3", b"helper 0 4096 3", b"set 0 4096 3",
                  b"rows 0 4096", b"own 9 9 256", b"helper 9 9 256", b"set 9 9 256", b"helpers 9 9 3", b"helpe 9 9 3"]
+
+        # Blocks, totals and questions: each number at its edge, and the order of 9 and 18.
+        made += [b"total %d %d" % pair for pair in ((0, 0), (0, 255), (63, 255), (63, 256), (64, 0), (64, 255), (65536, 0), (TOP, 0))]
+        made += [b"total", b"total 0", b"total 0 0 0", b"total -1 0", b"tota 0 0", b"totals 0 0", b"totalss", b"rebuil", b"rebuilds", b"rebuild-"]
+        made += [b"busy %d %d" % pair for pair in (
+            (0, 4095), (1, 4094), (1, 4095), (0, 4094), (5, 5), (63, 63), (64, 64), (63, 64), (0, 63), (64, 127), (1, 63), (0, 62),
+            (0, 64), (63, 127), (63, 128), (65, 126), (62, 129), (4031, 4095), (4032, 4095), (4033, 4095), (4095, 4095),
+            (0, 4096), (4096, 4096), (4096, 4095), (4097, 4096), (5, 4), (64, 63), (4095, 0), (65541, 5), (5, 65541), (TOP, 0), (0, TOP),
+            (TOP, TOP), (0, TOP + 1), (TOP + 1, 0))]
 
         # Numbers: each value just in and just out of its range, or cut to an octet.
         for value in (0, 127, 128, 256, 65536, TOP):
@@ -1158,6 +1201,31 @@ class Generator(Roaming):
             scene.append(b"act 9 %s 99" % message.hex().encode())
         made.append(scene + [b"rows 1000 1256"])
 
+        # Wrong totals of a call's blocks and of the next ones: an accepted call makes those of its blocks right, a refused one none.
+        for kind in ACTED:
+            row = SHAPES[kind]
+            scene = [b"own 560 960 9", b"set 560 960 1"]
+            spans = {GRS: [(639, 1), (640, 1), (632, 31)], CQM: [(639, 1), (703, 0), (632, 31)], CGB: [(639, 1), (703, 255)],
+                     CGU: [(640, 1), (703, 255)]}.get(kind, [(640, 0), (703, 0)])
+            for m, r in spans:
+                fixed = b"\1" if kind == CGB else bytes(row.fixed)     # for hardware, so that busy ends
+                contents = bytes([r]) if kind in (GRS, CQM) else bytes([r, 3] + [0] * (r // 8)) if kind in (CGB, CGU) else b"\1"
+                message = self.lay(kind, m, fixed, [contents] * row.variable, None).hex().encode()
+                scene += [b"set %d %d 0" % (m, m)] if kind == IAM else []
+                scene += [b"total %d 77" % block for block in range(m // 64 - 1, (m + r) // 64 + 2)]
+                scene += [b"act 8 %s 99" % message, b"busy %d %d" % (m // 64 * 64 - 64, m), b"act 9 %s 99" % message, b"totals"]
+            made.append(scene)
+        wrong = [b"set 600 800 1"] + [b"total %d 99" % block for block in (9, 10, 11)]
+        asks = [b"totals", b"busy 577 767", b"busy 640 703", b"busy 641 703", b"busy 640 702"]
+        for word in (b"block", b"unblock"):
+            made.append(wrong + [b"set 650 650 5", b"total 10 99", b"%s 650 3" % word, b"%s 640 2" % word, b"%s 4096 3" % word] + asks
+                        + [b"%s 703 3" % word] + asks)
+        # Rows made by the desk: the totals of the blocks that they touch; bit 1 of a row that is not legal counts; 255 in each total.
+        for low, high, state in ((640, 703, 0), (639, 640, 255), (703, 704, 254), (640, 640, 5), (0, 4095, 1)):
+            made.append(wrong + [b"set %d %d %d" % (low, high, state)] + asks)
+        made.append([b"total %d 255" % block for block in range(64)]
+                    + [b"busy 0 4095", b"busy 1 4094", b"totals", b"rebuild", b"totals", b"busy 0 4095", b"busy 1 4094"])
+
         # Groups that reach outside the sender's span, at the first, a middle and the last circuit, marked or not.
         for spot in (1499, 1500, 1504, 1508, 1509):
             for status in (b"0000", b"ffff"):
@@ -1206,12 +1274,12 @@ class Generator(Roaming):
     # ------------------------------------------------------------ the stream
 
     def scene(self):
-        if self.chance(0.34 if self.rounds < 2 else 0.05):
+        if self.chance(0.45 if self.rounds < 2 else 0.05):
             return self.corner()
         return self.weighted([
             (3, self.shape), (22, self.read), (20, self.write), (15, self.compact), (18, self.find),
             (9, self.number), (9, self.dial), (10, self.group), (7, self.single), (7, self.helped), (4, self.going), (1, self.spans),
-            (18, self.strange), (6, self.ours), (1, self.look), (10, self.velocity), (4, self.velocity_back), (2, self.bicc_shape), (14, self.bicc_read), (12, self.bicc_write),
+            (18, self.strange), (6, self.ours), (4, self.counting), (1, self.look), (10, self.velocity), (4, self.velocity_back), (2, self.bicc_shape), (14, self.bicc_read), (12, self.bicc_write),
             (10, self.bicc_compact), (3, self.sccp_shape), (16, self.sccp_read), (14, self.sccp_write), (12, self.sccp_compact), (20, self.lists),
             (12, lambda: [self.bad()])])()
 

@@ -546,6 +546,39 @@ def block(states, circuit, set_it, room):
     return notice, states[circuit] | LOCAL if set_it else states[circuit] & ~LOCAL
 
 
+# ---------------------------------------------------------------- the totals
+
+BLOCK, BLOCKS = 64, 64      # circuits of a block, and blocks
+
+
+def recount(states, totals, first, last):
+    """Each block that holds one of the circuits first to last has its total equal to its rows' count; other totals stay."""
+    for block in range(first // BLOCK, last // BLOCK + 1):
+        totals[block] = sum(state & BUSY for state in states[BLOCK * block:BLOCK * block + BLOCK])
+
+
+def busy(states, totals, a, b):
+    """A question about circuits a to b: 16, 9, 18. The count, and how many numbers were looked at: whole blocks are taken from
+    the totals, and only loose rows one by one."""
+    if len(states) != CIRCUITS or len(totals) != BLOCKS:
+        return 16
+    if b > 4095:
+        return 9
+    if a > b:
+        return 18
+    whole = [block for block in range(BLOCKS) if a <= BLOCK * block and BLOCK * block + BLOCK - 1 <= b]
+    loose = [c for c in range(a, b + 1) if c // BLOCK not in whole]
+    return sum(totals[block] for block in whole) + sum(states[c] & BUSY for c in loose), len(whole) + len(loose)
+
+
+def rebuild(states, totals):
+    """16. Every total is made right, whatever it was."""
+    if len(states) != CIRCUITS or len(totals) != BLOCKS:
+        return 16
+    recount(states, totals, 0, CIRCUITS - 1)
+    return "ok"
+
+
 # ---------------------------------------------------------------- the fields of a line
 
 class BadLine(Exception):
@@ -609,6 +642,7 @@ CODE = to(65535)
 ROOM = to(1024)
 CIRCUIT = to(4095)
 SMALL = to(255)
+ONE_BLOCK = to(63)
 
 FIELDS = {
     b"shape": (octet,),
@@ -638,6 +672,10 @@ FIELDS = {
     b"list": (octets,),
     b"bicc-list": (octets,),
     b"sccp-list": (octets,),
+    b"busy": (ANY, ANY),
+    b"totals": (),
+    b"total": (ONE_BLOCK, SMALL),
+    b"rebuild": (),
 }
 
 # The requests that have a second form, with more fields.
@@ -688,12 +726,13 @@ def written(answer):
 # ---------------------------------------------------------------- the desk
 
 class Desk:
-    """One table of states, one of owners and one of helpers, all 0 at the start."""
+    """One table of states, one of owners, one of helpers and the totals, all 0 at the start."""
 
     def __init__(self):
         self.states = bytearray(CIRCUITS)
         self.owners = bytearray(CIRCUITS)
         self.helpers = bytearray(CIRCUITS)
+        self.totals = bytearray(BLOCKS)
 
     def answer(self, line):
         """The answer line, without LF. The line comes without its LF and without a CR right before that LF."""
@@ -785,6 +824,7 @@ class Desk:
 
     def on_set(self, first, last, state):
         self.states[first:last + 1] = bytes([state]) * (last + 1 - first)
+        recount(self.states, self.totals, first, last)
         return "ok"
 
     def on_act(self, sender, message, room):
@@ -792,9 +832,9 @@ class Desk:
         if refused(done):
             return done
         answer, rows = done
-        if rows:
-            m = read(message).circuit
-            self.states[m:m + len(rows)] = rows
+        m = read(message).circuit
+        self.states[m:m + len(rows)] = rows
+        recount(self.states, self.totals, m, m + len(rows) - 1)     # all that are named, changed or not
         return "answer " + shown(answer)
 
     def on_block(self, circuit, room, set_it=True):
@@ -803,6 +843,7 @@ class Desk:
             return done
         notice, state = done
         self.states[circuit] = state
+        recount(self.states, self.totals, circuit, circuit)
         return "answer " + shown(notice)
 
     def on_unblock(self, circuit, room):
@@ -810,6 +851,21 @@ class Desk:
 
     def on_rows(self, first, last):
         return "rows " + shown(bytes(self.states[first:last + 1]))
+
+    def on_busy(self, first, last):
+        got = busy(self.states, self.totals, first, last)
+        return got if refused(got) else "count %d looked %d" % got
+
+    def on_totals(self):
+        return "totals " + shown(bytes(self.totals))
+
+    def on_total(self, block, value):
+        """One total is overwritten, right or wrong."""
+        self.totals[block] = value
+        return "ok"
+
+    def on_rebuild(self):
+        return rebuild(self.states, self.totals)
 
     def on_velocity(self, bearing, speed, vertical=None, mark=None):
         codes = velocities.coded(bearing, speed, vertical)

@@ -7,7 +7,7 @@ use mathlib.Core.List.{List, [], _∷_, _++_}
 use native.Mathlib.Omega.{arith}
 use borrow.Author.Tests.{le-ltb, ltb-false, eqb-true}
 use lib.Dec.{ltb, leb, eqb}
-use lib.ListN.{length, take, drop, replicate, length-append, length-take, length-drop, length-replicate}
+use lib.ListN.{length, take, drop, replicate, length-append, length-take, length-drop, length-replicate, set}
 use lib.Ieee.{Float}
 use Rattle.octets.specs.Octet.{octets}
 use Rattle.octets.specs.Choice.{if_then_else_}
@@ -52,15 +52,16 @@ use Rattle.velocity.specs.declared.Codes.{Codes}
 use Rattle.velocity.specs.declared.Codes.the-variants.{Horizontal, WithVertical}
 use Rattle.velocity.specs.declared.Course.{Course}
 use Rattle.velocity.specs.Velocity.{codesOf, Stands, alone, beside, knownOf}
-use Rattle.hub.specs.Tables.{Tables, tables}
-use Rattle.hub.proofs.Called.{buffer-length}
-use Rattle.hub.proofs.Desk.{desk-buffer-length}
+use Rattle.totals.specs.declared.Count.{Count}
+use Rattle.totals.specs.Blocks.{rebuildOf}
+use Rattle.totals.specs.Question.{busyBetween}
+use Rattle.board.proofs.Kept.{board-buffer-length, desk-board-buffer-length}
 use Rattle.words.specs.Said.{said}
 use Rattle.printing.specs.Sheet.{sheet, pour}
 use Rattle.printing.specs.Shown.{decimalIn, decimalOf, hexPairs, hexOf}
 use Rattle.printing.proofs.Pours.{pour-one, pour-append}
 use Rattle.requests.specs.Kinds.{FieldSays}
-use Rattle.requests.specs.Rows.{SHAPE, READ, WRITE, COMPACT, NUMBER, OWN, HELPER, SET, ACT, BLOCK, UNBLOCK, VELOCITY, VELOCITY-LONG, VELOCITY-BACK, VELOCITY-BACK-LONG, BICC-SHAPE, BICC-READ, BICC-WRITE, BICC-COMPACT, SCCP-SHAPE, SCCP-READ, SCCP-WRITE, SCCP-COMPACT, LIST, BICC-LIST, SCCP-LIST}
+use Rattle.requests.specs.Rows.{SHAPE, READ, WRITE, COMPACT, NUMBER, OWN, HELPER, SET, ACT, BLOCK, UNBLOCK, VELOCITY, VELOCITY-LONG, VELOCITY-BACK, VELOCITY-BACK-LONG, BICC-SHAPE, BICC-READ, BICC-WRITE, BICC-COMPACT, SCCP-SHAPE, SCCP-READ, SCCP-WRITE, SCCP-COMPACT, LIST, BICC-LIST, SCCP-LIST, BUSY, TOTALS, TOTAL, REBUILD}
 use Rattle.requests.specs.Words.{Asked, asks, nothing, askedOf, numberAt, octetAt, octetsAt}
 use Rattle.requests.proofs.Sound.{Short, short}
 use Rattle.lines.specs.Lines.{counted, shown, refusal, faultLine, writtenLine, octetsLine, blank, lent, againLine, compactLine}
@@ -77,8 +78,9 @@ use Rattle.velocity_lines.specs.declared.Marked.the-variants.{Is, Not}
 use Rattle.velocity_lines.specs.Velocities.{typedMark, markWord, codesLine, codedLine, wholeIn, courseLine, knownLine, byValue, byMark, velocityLine, velocityLongLine, backLine, backLongLine, codeAt, velocitiesLine}
 use Rattle.octets.specs.Applied.{spread}
 use Rattle.block_lines.specs.Blocks.{noticeLine, blockDone}
-use Rattle.table_lines.specs.Tables.{Turn, turn, Left, left, leftBy, rowsLine, tableTurn, replyLine, actsOf, actTurn}
-use Rattle.answers.specs.Turns.{blockTurn, furtherLine, turnBy, turnFor, turnOf, turnIn, withLineEnd}
+use Rattle.busy_lines.specs.Busy.{busyLine, rebuildLine, busyAfter, rebuilt, busyDone}
+use Rattle.table_lines.specs.Tables.{DeskTables, deskTables, Turn, turn, Left, left, leftBy, rowsLine, setTurn, tableTurn, replyLine, actsOf, actTurn}
+use Rattle.answers.specs.Turns.{blockTurn, furtherLine, furtherDone, furtherTurn, turnBy, turnFor, turnOf, turnIn, withLineEnd}
 use Rattle.answers.proofs.Determined.{AnswersLine}
 
 -- ten digits at the most
@@ -424,34 +426,71 @@ velocities-fit which gs = go (eqb which VELOCITY) (eqb which VELOCITY-LONG) (eqb
     go false false true = omega (arith, known-fits (knownOf (Horizontal (codeAt gs 0) (codeAt gs 1))))
     go false false false = omega (arith, back-long-fits (codeAt gs 0) (codeAt gs 1) (octetAt gs 2) (octetsAt gs 3))
 
-module _ (T : Tables) (k : length (T .states) ≤ 4096) where
+-- a question's line
+count-fits : (x : Answer Count) → length (busyLine x) ≤ 100
+unfolding busyLine
+count-fits (accepted c) = omega (arith, length-append (counted "count " (c .count)) (counted " looked " (c .looked)), counted-length "count " (c .count), counted-length " looked " (c .looked))
+count-fits (refused n at) = omega (arith, counted-length "refused " n)
+
+-- a rebuild's line
+rebuild-fits : (x : Answer ℕ) → length (rebuildLine x) ≤ 100
+unfolding rebuildLine
+rebuild-fits (accepted n) = omega arith
+rebuild-fits (refused n at) = omega (arith, counted-length "refused " n)
+
+-- those about how many are busy
+busy-fits : (states totals : List ℕ) → length totals ≤ 4096 → (which : ℕ) (gs : List FieldSays) → length (busyDone states totals which gs .line) ≤ 40000
+unfolding busyDone
+busy-fits states totals h which gs = go (eqb which BUSY) (eqb which TOTALS) (eqb which TOTAL)
+  where
+    go : (a b c : Bool)
+        → length ((if a then busyAfter totals (busyLine (busyBetween states totals (numberAt gs 0) (numberAt gs 1)))
+        else if b then busyAfter totals (shown "totals " totals)
+        else if c then busyAfter (set totals (numberAt gs 0) (octetAt gs 1)) (said "ok")
+        else rebuilt states totals) .line) ≤ 40000
+    go true b c = omega (arith, count-fits (busyBetween states totals (numberAt gs 0) (numberAt gs 1)))
+    go false true c = omega (arith, shown-length "totals " totals 4096 h)
+    go false false true = omega arith
+    go false false false = omega (arith, rebuild-fits (rebuildOf states totals .answer))
+
+module _ (T : DeskTables) (k : length (T .tables .states) ≤ 4096) (w : length (T .totals) ≤ 4096) where
   -- those of the tables
   table-fits : (which : ℕ) (gs : List FieldSays) → length (tableTurn T which gs .line) ≤ 40000
   unfolding tableTurn
   table-fits which gs = go (eqb which OWN) (eqb which HELPER) (eqb which SET)
     where
-      go : (a h b : Bool) → length ((if a then turn (tables (T .states) (spread (T .owners) (numberAt gs 0) (numberAt gs 1) (octetAt gs 2)) (T .helpers)) (said "ok")
-          else if h then turn (tables (T .states) (T .owners) (spread (T .helpers) (numberAt gs 0) (numberAt gs 1) (octetAt gs 2))) (said "ok")
-          else if b then turn (tables (spread (T .states) (numberAt gs 0) (numberAt gs 1) (octetAt gs 2)) (T .owners) (T .helpers)) (said "ok")
-          else turn T (rowsLine (T .states) (numberAt gs 0) (numberAt gs 1))) .line) ≤ 40000
+      go : (a h b : Bool) → length ((if a then turn (deskTables (T .tables .states) (spread (T .tables .owners) (numberAt gs 0) (numberAt gs 1) (octetAt gs 2)) (T .tables .helpers) (T .totals)) (said "ok")
+          else if h then turn (deskTables (T .tables .states) (T .tables .owners) (spread (T .tables .helpers) (numberAt gs 0) (numberAt gs 1) (octetAt gs 2)) (T .totals)) (said "ok")
+          else if b then turn (setTurn T (numberAt gs 0) (numberAt gs 1) (octetAt gs 2)) (said "ok")
+          else turn T (rowsLine (T .tables .states) (numberAt gs 0) (numberAt gs 1))) .line) ≤ 40000
       go true h b = omega arith
       go false true b = omega arith
       go false false true = omega arith
-      go false false false = omega (arith, rows-fit 4096 (T .states) k (numberAt gs 0) (numberAt gs 1))
+      go false false false = omega (arith, rows-fit 4096 (T .tables .states) k (numberAt gs 0) (numberAt gs 1))
 
   -- the hub's
   act-fits : (gs : List FieldSays) → length (actTurn T gs .line) ≤ 40000
   unfolding actTurn
   act-fits gs =
       let a = actsOf T gs in
-      omega (arith, reply-fits 1024 (a .buffer) (omega (arith, lent-length (numberAt gs 2), buffer-length T (numberAt gs 0) (octetsAt gs 1) (lent (numberAt gs 2)))) (a .answer))
+      omega (arith, reply-fits 1024 (a .buffer) (omega (arith, lent-length (numberAt gs 2), board-buffer-length (T .tables) (T .totals) (numberAt gs 0) (octetsAt gs 1) (lent (numberAt gs 2)))) (a .answer))
 
   -- those that block from our side
   block-fits : (which : ℕ) (gs : List FieldSays) → length (blockTurn T which gs .line) ≤ 40000
   unfolding blockDone
   block-fits which gs =
-      let a = blockDone (T .states) which gs in
-      omega (arith, notice-fits 1024 (a .buffer) (omega (arith, lent-length (numberAt gs 1), desk-buffer-length (T .states) (numberAt gs 0) (eqb which BLOCK) (lent (numberAt gs 1)))) (a .answer))
+      let a = blockDone (T .tables .states) (T .totals) which gs in
+      omega (arith, notice-fits 1024 (a .buffer) (omega (arith, lent-length (numberAt gs 1), desk-board-buffer-length (T .tables .states) (T .totals) (numberAt gs 0) (eqb which BLOCK) (lent (numberAt gs 1)))) (a .answer))
+
+  -- the further ones
+  further-turn-fits : (which : ℕ) (gs : List FieldSays) → ShortAll gs → length (furtherTurn T which gs .line) ≤ 40000
+  unfolding furtherDone
+  further-turn-fits which gs h = go (ltb which BUSY) (leb which REBUILD)
+    where
+      go : (a b : Bool) → length ((if a then busyAfter (T .totals) (furtherLine which gs) else if b then busyDone (T .tables .states) (T .totals) which gs else busyAfter (T .totals) (said "bad line")) .line) ≤ 40000
+      go true b = further-fits which gs h
+      go false true = busy-fits (T .tables .states) (T .totals) w which gs
+      go false false = omega arith
 
   -- whatever is asked
   asked-fits : (a : Asked) → Short a → length (turnFor T a .line) ≤ 40000
@@ -465,7 +504,7 @@ module _ (T : Tables) (k : length (T .states) ≤ 4096) where
           else if u then blockTurn T which gs
           else if e then turn T (velocitiesLine which gs)
           else if f then turn T (biccLine which gs)
-          else turn T (furtherLine which gs)) .line) ≤ 40000
+          else furtherTurn T which gs) .line) ≤ 40000
       go true b c d u e f = codec-fits which gs h
       go false true c d u e f = numbers-fit which gs h
       go false false true d u e f = table-fits which gs
@@ -473,22 +512,22 @@ module _ (T : Tables) (k : length (T .states) ≤ 4096) where
       go false false false false true e f = block-fits which gs
       go false false false false false true f = velocities-fit which gs
       go false false false false false false true = bicc-fits which gs h
-      go false false false false false false false = further-fits which gs h
+      go false false false false false false false = further-turn-fits which gs h
   asked-fits nothing h = omega arith
 
 -- of every line
-pub answer-fits : (line : List ℕ) (T : Tables) → length (turnOf line T .line) ≤ 40000
+pub answer-fits : (line : List ℕ) (T : DeskTables) → length (turnOf line T .line) ≤ 40000
 unfolding turnOf
-answer-fits line T = go (eqb (length (T .states)) 4096) (if eqb (length (T .owners)) 4096 then eqb (length (T .helpers)) 4096 else false) refl
+answer-fits line T = go (eqb (length (T .tables .states)) 4096) (if eqb (length (T .tables .owners)) 4096 then eqb (length (T .tables .helpers)) 4096 else false) (eqb (length (T .totals)) 64) refl refl
   where
-    go : (s o : Bool) → eqb (length (T .states)) 4096 ≡ s → length ((if (if s then o else false) then turnFor T (askedOf line) else turn T (refusal 16)) .line) ≤ 40000
-    go true true e = asked-fits T (omega (arith, eqb-true (length (T .states)) 4096 e)) (askedOf line) (short line)
-    go true false e = omega (arith, counted-length "refused " 16)
-    go false true e = omega (arith, counted-length "refused " 16)
-    go false false e = omega (arith, counted-length "refused " 16)
+    go : (s o t : Bool) → eqb (length (T .tables .states)) 4096 ≡ s → eqb (length (T .totals)) 64 ≡ t → length ((if (if (if s then o else false) then t else false) then turnFor T (askedOf line) else turn T (refusal 16)) .line) ≤ 40000
+    go true true true e f = asked-fits T (omega (arith, eqb-true (length (T .tables .states)) 4096 e)) (omega (arith, eqb-true (length (T .totals)) 64 f)) (askedOf line) (short line)
+    go true true false e f = omega (arith, counted-length "refused " 16)
+    go true false t e f = omega (arith, counted-length "refused " 16)
+    go false o t e f = omega (arith, counted-length "refused " 16)
 
 -- so with 4168 octets of scratch a buffer of 65536 octets holds the whole line with its LF, at its front
-pub answer-whole : (scratch : ℕ) (line : List ℕ) (T : Tables) (buffer : List ℕ) (U : Tables) (b : List ℕ) (n : ℕ) → 4168 ≤ scratch → length buffer ≡ 65536 → AnswersLine scratch line T buffer U b n → (U ≡ turnOf line T .tables) × (take n b ≡ turnOf line T .line ++ (10 ∷ []))
+pub answer-whole : (scratch : ℕ) (line : List ℕ) (T : DeskTables) (buffer : List ℕ) (U : DeskTables) (b : List ℕ) (n : ℕ) → 4168 ≤ scratch → length buffer ≡ 65536 → AnswersLine scratch line T buffer U b n → (U ≡ turnOf line T .tables) × (take n b ≡ turnOf line T .line ++ (10 ∷ []))
 answer-whole scratch line T buffer U b n k h e =
     let t = turnOf line T in
     let same : turnIn scratch line T ≡ t = rw (le-ltb _ _ k) refl in

@@ -10,12 +10,10 @@ use Rattle.octets.proofs.Choice.{decided}
 use lib.Dec.{ltb, leb, eqb}
 use Rattle.octets.specs.Answer.{refused}
 use Rattle.octets.specs.Choice.{if_then_else_}
-use Rattle.hub.specs.Tables.{Tables, tables, sized}
-use Rattle.hub.proofs.Called.{act-keeps}
-use Rattle.hub.proofs.Desk.{desk-keeps}
+use Rattle.board.proofs.Kept.{board-keeps, desk-board-keeps}
 use Rattle.words.specs.Said.{said}
 use Rattle.requests.specs.Kinds.{FieldSays}
-use Rattle.requests.specs.Rows.{NUMBER, OWN, HELPER, SET, ACT, BLOCK, UNBLOCK, VELOCITY-BACK-LONG, BICC-COMPACT}
+use Rattle.requests.specs.Rows.{NUMBER, OWN, HELPER, SET, ACT, BLOCK, UNBLOCK, VELOCITY-BACK-LONG, BICC-COMPACT, BUSY, TOTAL, REBUILD}
 use Rattle.requests.specs.Words.{Asked, asks, nothing, askedOf, numberAt, octetAt, octetsAt}
 use Rattle.lines.specs.Lines.{refusal, lent}
 use Rattle.codec_lines.specs.Codec.{codecLine}
@@ -24,60 +22,73 @@ use Rattle.number_lines.specs.Numbers.{numbersLine}
 use Rattle.velocity_lines.specs.Velocities.{velocitiesLine}
 use Rattle.octets.specs.Applied.{spread}
 use Rattle.block_lines.specs.Blocks.{blockDone}
-use Rattle.table_lines.specs.Tables.{Turn, turn, rowsLine, tableTurn, actsOf, actTurn}
-use Rattle.answers.specs.Turns.{blockTurn, furtherLine, turnBy, turnFor, turnOf}
+use Rattle.busy_lines.specs.Busy.{busyAfter, busyDone}
+use Rattle.busy_lines.proofs.Meaning.{others-keep-totals}
+use Rattle.table_lines.specs.Tables.{DeskTables, deskTables, allSized, Turn, turn, rowsLine, setTurn, tableTurn, actsOf, actTurn}
+use Rattle.answers.specs.Turns.{blockTurn, furtherLine, furtherDone, furtherTurn, turnBy, turnFor, turnOf}
 
 -- an `act` that the hub refuses
-abbrev pub Refused : Tables → List FieldSays → Type 0
+abbrev pub Refused : DeskTables → List FieldSays → Type 0
 Refused T gs = (n at : ℕ) × (actsOf T gs .answer ≡ refused n at)
 
 -- a `block` or `unblock` that is refused
-abbrev pub NotBlocked : Tables → ℕ → List FieldSays → Type 0
-NotBlocked T which gs = (n at : ℕ) × (blockDone (T .states) which gs .answer ≡ refused n at)
+abbrev pub NotBlocked : DeskTables → ℕ → List FieldSays → Type 0
+NotBlocked T which gs = (n at : ℕ) × (blockDone (T .tables .states) (T .totals) which gs .answer ≡ refused n at)
 
-module _ (T : Tables) (which : ℕ) (gs : List FieldSays) where
+module _ (T : DeskTables) (which : ℕ) (gs : List FieldSays) where
   -- of the requests of the tables, the choice of a row
   abbrev chosenTable : Bool → Bool → Bool → Turn
   chosenTable o h s =
-      if o then turn (tables (T .states) (spread (T .owners) (numberAt gs 0) (numberAt gs 1) (octetAt gs 2)) (T .helpers)) (said "ok")
-      else if h then turn (tables (T .states) (T .owners) (spread (T .helpers) (numberAt gs 0) (numberAt gs 1) (octetAt gs 2))) (said "ok")
-      else if s then turn (tables (spread (T .states) (numberAt gs 0) (numberAt gs 1) (octetAt gs 2)) (T .owners) (T .helpers)) (said "ok")
-      else turn T (rowsLine (T .states) (numberAt gs 0) (numberAt gs 1))
+      if o then turn (deskTables (T .tables .states) (spread (T .tables .owners) (numberAt gs 0) (numberAt gs 1) (octetAt gs 2)) (T .tables .helpers) (T .totals)) (said "ok")
+      else if h then turn (deskTables (T .tables .states) (T .tables .owners) (spread (T .tables .helpers) (numberAt gs 0) (numberAt gs 1) (octetAt gs 2)) (T .totals)) (said "ok")
+      else if s then turn (setTurn T (numberAt gs 0) (numberAt gs 1) (octetAt gs 2)) (said "ok")
+      else turn T (rowsLine (T .tables .states) (numberAt gs 0) (numberAt gs 1))
 
   -- only `own` changes who owns a circuit
-  table-owners : (which ≡ OWN → ⊥) → tableTurn T which gs .tables .owners ≡ T .owners
+  table-owners : (which ≡ OWN → ⊥) → tableTurn T which gs .tables .tables .owners ≡ T .tables .owners
   unfolding tableTurn
   table-owners n = go (eqb which OWN) (eqb which HELPER) (eqb which SET) refl
     where
-      go : (o h s : Bool) → eqb which OWN ≡ o → chosenTable o h s .tables .owners ≡ T .owners
+      go : (o h s : Bool) → eqb which OWN ≡ o → chosenTable o h s .tables .tables .owners ≡ T .tables .owners
       go true h s e = absurd (n (eqb-true which OWN e))
       go false true s e = refl
       go false false true e = refl
       go false false false e = refl
 
   -- only `helper` changes who helps a circuit
-  table-helpers : (which ≡ HELPER → ⊥) → tableTurn T which gs .tables .helpers ≡ T .helpers
+  table-helpers : (which ≡ HELPER → ⊥) → tableTurn T which gs .tables .tables .helpers ≡ T .tables .helpers
   unfolding tableTurn
   table-helpers n = go (eqb which OWN) (eqb which HELPER) (eqb which SET) refl
     where
-      go : (o h s : Bool) → eqb which HELPER ≡ h → chosenTable o h s .tables .helpers ≡ T .helpers
+      go : (o h s : Bool) → eqb which HELPER ≡ h → chosenTable o h s .tables .tables .helpers ≡ T .tables .helpers
       go true h s e = refl
       go false true s e = absurd (n (eqb-true which HELPER e))
       go false false true e = refl
       go false false false e = refl
 
   -- only `set` changes a row
-  table-states : (which ≡ SET → ⊥) → tableTurn T which gs .tables .states ≡ T .states
+  table-states : (which ≡ SET → ⊥) → tableTurn T which gs .tables .tables .states ≡ T .tables .states
   unfolding tableTurn
   table-states n = go (eqb which OWN) (eqb which HELPER) (eqb which SET) refl
     where
-      go : (o h s : Bool) → eqb which SET ≡ s → chosenTable o h s .tables .states ≡ T .states
+      go : (o h s : Bool) → eqb which SET ≡ s → chosenTable o h s .tables .tables .states ≡ T .tables .states
       go true h s e = refl
       go false true s e = refl
       go false false true e = absurd (n (eqb-true which SET e))
       go false false false e = refl
 
-module _ (T : Tables) (which : ℕ) (gs : List FieldSays) where
+  -- and with it totals
+  table-totals : (which ≡ SET → ⊥) → tableTurn T which gs .tables .totals ≡ T .totals
+  unfolding tableTurn
+  table-totals n = go (eqb which OWN) (eqb which HELPER) (eqb which SET) refl
+    where
+      go : (o h s : Bool) → eqb which SET ≡ s → chosenTable o h s .tables .totals ≡ T .totals
+      go true h s e = refl
+      go false true s e = refl
+      go false false true e = absurd (n (eqb-true which SET e))
+      go false false false e = refl
+
+module _ (T : DeskTables) (which : ℕ) (gs : List FieldSays) where
   -- the choice of a family
   abbrev chosenFamily : Bool → Bool → Bool → Bool → Bool → Bool → Bool → Turn
   chosenFamily a b c d u v w =
@@ -88,13 +99,13 @@ module _ (T : Tables) (which : ℕ) (gs : List FieldSays) where
       else if u then blockTurn T which gs
       else if v then turn T (velocitiesLine which gs)
       else if w then turn T (biccLine which gs)
-      else turn T (furtherLine which gs)
+      else furtherTurn T which gs
 
-  owners-by : (which ≡ OWN → ⊥) → turnBy T which gs .tables .owners ≡ T .owners
+  owners-by : (which ≡ OWN → ⊥) → turnBy T which gs .tables .tables .owners ≡ T .tables .owners
   unfolding turnBy actTurn
   owners-by h = go (ltb which NUMBER) (ltb which OWN) (ltb which ACT) (eqb which ACT) (leb which UNBLOCK) (leb which VELOCITY-BACK-LONG) (leb which BICC-COMPACT)
     where
-      go : (a b c d u v w : Bool) → chosenFamily a b c d u v w .tables .owners ≡ T .owners
+      go : (a b c d u v w : Bool) → chosenFamily a b c d u v w .tables .tables .owners ≡ T .tables .owners
       go true b c d u v w = refl
       go false true c d u v w = refl
       go false false true d u v w = table-owners T which gs h
@@ -104,11 +115,11 @@ module _ (T : Tables) (which : ℕ) (gs : List FieldSays) where
       go false false false false false false true = refl
       go false false false false false false false = refl
 
-  helpers-by : (which ≡ HELPER → ⊥) → turnBy T which gs .tables .helpers ≡ T .helpers
+  helpers-by : (which ≡ HELPER → ⊥) → turnBy T which gs .tables .tables .helpers ≡ T .tables .helpers
   unfolding turnBy actTurn
   helpers-by h = go (ltb which NUMBER) (ltb which OWN) (ltb which ACT) (eqb which ACT) (leb which UNBLOCK) (leb which VELOCITY-BACK-LONG) (leb which BICC-COMPACT)
     where
-      go : (a b c d u v w : Bool) → chosenFamily a b c d u v w .tables .helpers ≡ T .helpers
+      go : (a b c d u v w : Bool) → chosenFamily a b c d u v w .tables .tables .helpers ≡ T .tables .helpers
       go true b c d u v w = refl
       go false true c d u v w = refl
       go false false true d u v w = table-helpers T which gs h
@@ -119,66 +130,113 @@ module _ (T : Tables) (which : ℕ) (gs : List FieldSays) where
       go false false false false false false false = refl
 
   -- a `block` or an `unblock` that is refused
-  block-states : (which ≡ BLOCK → NotBlocked T which gs) → (which ≡ UNBLOCK → NotBlocked T which gs) → 11 ≤ which → (which ≡ ACT → ⊥) → which ≤ 13 → blockTurn T which gs .tables .states ≡ T .states
+  block-states : (which ≡ BLOCK → NotBlocked T which gs) → (which ≡ UNBLOCK → NotBlocked T which gs) → 11 ≤ which → (which ≡ ACT → ⊥) → which ≤ 13 → blockTurn T which gs .tables .tables .states ≡ T .tables .states
   unfolding blockDone
   block-states p q l n h =
       let f : NotBlocked T which gs = ⊎-elim (λ t. p (eqb-true which BLOCK t)) (λ t. let z = eqb-false which BLOCK t in q (omega (arith, z, n, l, h))) (decided (eqb which BLOCK)) in
-      desk-keeps (T .states) (numberAt gs 0) (eqb which BLOCK) (lent (numberAt gs 1)) (f .0) (f .1) (f .2) .0
+      desk-board-keeps (T .tables .states) (T .totals) (numberAt gs 0) (eqb which BLOCK) (lent (numberAt gs 1)) (f .0) (f .1) (f .2) .0
 
-  states-by : (which ≡ SET → ⊥) → (which ≡ ACT → Refused T gs) → (which ≡ BLOCK → NotBlocked T which gs) → (which ≡ UNBLOCK → NotBlocked T which gs) → turnBy T which gs .tables .states ≡ T .states
+  block-totals : (which ≡ BLOCK → NotBlocked T which gs) → (which ≡ UNBLOCK → NotBlocked T which gs) → 11 ≤ which → (which ≡ ACT → ⊥) → which ≤ 13 → blockTurn T which gs .tables .totals ≡ T .totals
+  unfolding blockDone
+  block-totals p q l n h =
+      let f : NotBlocked T which gs = ⊎-elim (λ t. p (eqb-true which BLOCK t)) (λ t. let z = eqb-false which BLOCK t in q (omega (arith, z, n, l, h))) (decided (eqb which BLOCK)) in
+      desk-board-keeps (T .tables .states) (T .totals) (numberAt gs 0) (eqb which BLOCK) (lent (numberAt gs 1)) (f .0) (f .1) (f .2) .1
+
+  states-by : (which ≡ SET → ⊥) → (which ≡ ACT → Refused T gs) → (which ≡ BLOCK → NotBlocked T which gs) → (which ≡ UNBLOCK → NotBlocked T which gs) → turnBy T which gs .tables .tables .states ≡ T .tables .states
   unfolding turnBy actTurn
   states-by h r p q = go (ltb which NUMBER) (ltb which OWN) (ltb which ACT) (eqb which ACT) (leb which UNBLOCK) (leb which VELOCITY-BACK-LONG) (leb which BICC-COMPACT) refl refl refl
     where
-      go : (a b c d u v w : Bool) → ltb which ACT ≡ c → eqb which ACT ≡ d → leb which UNBLOCK ≡ u → chosenFamily a b c d u v w .tables .states ≡ T .states
+      go : (a b c d u v w : Bool) → ltb which ACT ≡ c → eqb which ACT ≡ d → leb which UNBLOCK ≡ u → chosenFamily a b c d u v w .tables .tables .states ≡ T .tables .states
       go true b c d u v w f e g = refl
       go false true c d u v w f e g = refl
       go false false true d u v w f e g = table-states T which gs h
-      go false false false true u v w f e g = let y = r (eqb-true which ACT e) in act-keeps T (numberAt gs 0) (octetsAt gs 1) (lent (numberAt gs 2)) (y .0) (y .1) (y .2) .0
+      go false false false true u v w f e g = let y = r (eqb-true which ACT e) in board-keeps (T .tables) (T .totals) (numberAt gs 0) (octetsAt gs 1) (lent (numberAt gs 2)) (y .0) (y .1) (y .2) .0
       go false false false false true v w f e g = block-states p q (ltb-false which ACT f) (eqb-false which ACT e) (leb-true which UNBLOCK g)
       go false false false false false true w f e g = refl
       go false false false false false false true f e g = refl
       go false false false false false false false f e g = refl
 
-module _ (line : List ℕ) (T : Tables) where
+  -- the further ones change a total by `total` and `rebuild` alone
+  further-totals : (which ≡ TOTAL → ⊥) → (which ≡ REBUILD → ⊥) → furtherTurn T which gs .tables .totals ≡ T .totals
+  unfolding furtherDone
+  further-totals t b = go (ltb which BUSY) (leb which REBUILD) refl refl
+    where
+      go : (l h : Bool) → ltb which BUSY ≡ l → leb which REBUILD ≡ h → (if l then busyAfter (T .totals) (furtherLine which gs) else if h then busyDone (T .tables .states) (T .totals) which gs else busyAfter (T .totals) (said "bad line")) .totals ≡ T .totals
+      go true h e f = refl
+      go false true e f = others-keep-totals (T .tables .states) (T .totals) gs which (ltb-false which BUSY e) (leb-true which REBUILD f) t b
+      go false false e f = refl
+
+  totals-by : (which ≡ SET → ⊥) → (which ≡ ACT → Refused T gs) → (which ≡ BLOCK → NotBlocked T which gs) → (which ≡ UNBLOCK → NotBlocked T which gs) → (which ≡ TOTAL → ⊥) → (which ≡ REBUILD → ⊥) → turnBy T which gs .tables .totals ≡ T .totals
+  unfolding turnBy actTurn
+  totals-by h r p q t k = go (ltb which NUMBER) (ltb which OWN) (ltb which ACT) (eqb which ACT) (leb which UNBLOCK) (leb which VELOCITY-BACK-LONG) (leb which BICC-COMPACT) refl refl refl
+    where
+      go : (a b c d u v w : Bool) → ltb which ACT ≡ c → eqb which ACT ≡ d → leb which UNBLOCK ≡ u → chosenFamily a b c d u v w .tables .totals ≡ T .totals
+      go true b c d u v w f e g = refl
+      go false true c d u v w f e g = refl
+      go false false true d u v w f e g = table-totals T which gs h
+      go false false false true u v w f e g = let y = r (eqb-true which ACT e) in board-keeps (T .tables) (T .totals) (numberAt gs 0) (octetsAt gs 1) (lent (numberAt gs 2)) (y .0) (y .1) (y .2) .1
+      go false false false false true v w f e g = block-totals p q (ltb-false which ACT f) (eqb-false which ACT e) (leb-true which UNBLOCK g)
+      go false false false false false true w f e g = refl
+      go false false false false false false true f e g = refl
+      go false false false false false false false f e g = further-totals t k
+
+module _ (line : List ℕ) (T : DeskTables) where
   -- a line that is no request changes no table
   pub bad-line-keeps : askedOf line ≡ nothing → turnOf line T .tables ≡ T
   unfolding turnOf
-  bad-line-keeps e = go (sized T)
+  bad-line-keeps e = go (allSized T)
     where
       go : (t : Bool) → (if t then turnFor T (askedOf line) else turn T (refusal 16)) .tables ≡ T
       go true = ap (λ (a : Asked). turnFor T a .tables) e
       go false = refl
 
   -- who owns a circuit changes by `own` alone
-  pub owners-kept : ((gs : List FieldSays) → askedOf line ≡ asks OWN gs → ⊥) → turnOf line T .tables .owners ≡ T .owners
+  pub owners-kept : ((gs : List FieldSays) → askedOf line ≡ asks OWN gs → ⊥) → turnOf line T .tables .tables .owners ≡ T .tables .owners
   unfolding turnOf
-  owners-kept h = go (sized T) (askedOf line) refl
+  owners-kept h = go (allSized T) (askedOf line) refl
     where
-      go : (t : Bool) (a : Asked) → askedOf line ≡ a → (if t then turnFor T a else turn T (refusal 16)) .tables .owners ≡ T .owners
+      go : (t : Bool) (a : Asked) → askedOf line ≡ a → (if t then turnFor T a else turn T (refusal 16)) .tables .tables .owners ≡ T .tables .owners
       go true (asks which gs) e = owners-by T which gs (λ w. h gs (e ∙ ap (λ (n : ℕ). asks n gs) w))
       go true nothing e = refl
       go false a e = refl
 
   -- who helps a circuit changes by `helper` alone
-  pub helpers-kept : ((gs : List FieldSays) → askedOf line ≡ asks HELPER gs → ⊥) → turnOf line T .tables .helpers ≡ T .helpers
+  pub helpers-kept : ((gs : List FieldSays) → askedOf line ≡ asks HELPER gs → ⊥) → turnOf line T .tables .tables .helpers ≡ T .tables .helpers
   unfolding turnOf
-  helpers-kept h = go (sized T) (askedOf line) refl
+  helpers-kept h = go (allSized T) (askedOf line) refl
     where
-      go : (t : Bool) (a : Asked) → askedOf line ≡ a → (if t then turnFor T a else turn T (refusal 16)) .tables .helpers ≡ T .helpers
+      go : (t : Bool) (a : Asked) → askedOf line ≡ a → (if t then turnFor T a else turn T (refusal 16)) .tables .tables .helpers ≡ T .tables .helpers
       go true (asks which gs) e = helpers-by T which gs (λ w. h gs (e ∙ ap (λ (n : ℕ). asks n gs) w))
       go true nothing e = refl
       go false a e = refl
 
   -- a row changes by `set`, by an `act` that the hub does not refuse, or by a `block` or an `unblock` that is not refused
   pub states-kept : ((gs : List FieldSays) → askedOf line ≡ asks SET gs → ⊥) → ((gs : List FieldSays) → askedOf line ≡ asks ACT gs → Refused T gs)
-      → ((gs : List FieldSays) → askedOf line ≡ asks BLOCK gs → NotBlocked T BLOCK gs) → ((gs : List FieldSays) → askedOf line ≡ asks UNBLOCK gs → NotBlocked T UNBLOCK gs) → turnOf line T .tables .states ≡ T .states
+      → ((gs : List FieldSays) → askedOf line ≡ asks BLOCK gs → NotBlocked T BLOCK gs) → ((gs : List FieldSays) → askedOf line ≡ asks UNBLOCK gs → NotBlocked T UNBLOCK gs) → turnOf line T .tables .tables .states ≡ T .tables .states
   unfolding turnOf
-  states-kept h r p q = go (sized T) (askedOf line) refl
+  states-kept h r p q = go (allSized T) (askedOf line) refl
     where
-      go : (t : Bool) (a : Asked) → askedOf line ≡ a → (if t then turnFor T a else turn T (refusal 16)) .tables .states ≡ T .states
+      go : (t : Bool) (a : Asked) → askedOf line ≡ a → (if t then turnFor T a else turn T (refusal 16)) .tables .tables .states ≡ T .tables .states
       go true (asks which gs) e =
           states-by T which gs (λ w. h gs (e ∙ ap (λ (n : ℕ). asks n gs) w)) (λ w. r gs (e ∙ ap (λ (n : ℕ). asks n gs) w))
           (λ w. subst (λ (n : ℕ). NotBlocked T n gs) (sym w) (p gs (e ∙ ap (λ (n : ℕ). asks n gs) w)))
           (λ w. subst (λ (n : ℕ). NotBlocked T n gs) (sym w) (q gs (e ∙ ap (λ (n : ℕ). asks n gs) w)))
+      go true nothing e = refl
+      go false a e = refl
+
+  -- a total changes by these, by `total` and by `rebuild`
+  pub totals-kept : ((gs : List FieldSays) → askedOf line ≡ asks SET gs → ⊥) → ((gs : List FieldSays) → askedOf line ≡ asks ACT gs → Refused T gs)
+      → ((gs : List FieldSays) → askedOf line ≡ asks BLOCK gs → NotBlocked T BLOCK gs) → ((gs : List FieldSays) → askedOf line ≡ asks UNBLOCK gs → NotBlocked T UNBLOCK gs)
+      → ((gs : List FieldSays) → askedOf line ≡ asks TOTAL gs → ⊥) → ((gs : List FieldSays) → askedOf line ≡ asks REBUILD gs → ⊥) → turnOf line T .tables .totals ≡ T .totals
+  unfolding turnOf
+  totals-kept h r p q t k = go (allSized T) (askedOf line) refl
+    where
+      go : (b : Bool) (a : Asked) → askedOf line ≡ a → (if b then turnFor T a else turn T (refusal 16)) .tables .totals ≡ T .totals
+      go true (asks which gs) e =
+          totals-by T which gs (λ w. h gs (e ∙ ap (λ (n : ℕ). asks n gs) w)) (λ w. r gs (e ∙ ap (λ (n : ℕ). asks n gs) w))
+          (λ w. subst (λ (n : ℕ). NotBlocked T n gs) (sym w) (p gs (e ∙ ap (λ (n : ℕ). asks n gs) w)))
+          (λ w. subst (λ (n : ℕ). NotBlocked T n gs) (sym w) (q gs (e ∙ ap (λ (n : ℕ). asks n gs) w)))
+          (λ w. t gs (e ∙ ap (λ (n : ℕ). asks n gs) w))
+          (λ w. k gs (e ∙ ap (λ (n : ℕ). asks n gs) w))
       go true nothing e = refl
       go false a e = refl

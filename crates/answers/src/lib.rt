@@ -1,15 +1,17 @@
 // What the desk answers to a line: the proved libraries do the work, and the answer is put as a line into a lent buffer.
 ghost use mathlib.Core.Path.{_≡_};
 ghost use lib.ListN.{length};
-ghost use Rattle.hub.specs.Tables.{tables};
 ghost use Rattle.printing.specs.Sheet.{sheet, pour};
 ghost use Rattle.requests.specs.Along.{saidIn};
-ghost use Rattle.table_lines.specs.Tables.{left, leftBy};
-ghost use Rattle.answers.specs.Turns.{furtherLine, turnBy, turnIn, withLineEnd};
+ghost use Rattle.table_lines.specs.Tables.{deskTables, left, leftBy};
+ghost use Rattle.busy_lines.specs.Busy.{busyLeft, busyLeftBy};
+ghost use Rattle.answers.specs.Turns.{furtherLine, furtherDone, turnBy, turnIn, withLineEnd};
 use requests::ACT;
 use requests::BICC_COMPACT;
+use requests::BUSY;
 use requests::NUMBER;
 use requests::OWN;
+use requests::REBUILD;
 use requests::Request;
 use requests::SCCP_COMPACT;
 use requests::SCCP_LIST;
@@ -19,10 +21,13 @@ use requests::VELOCITY_BACK_LONG;
 // How many circuits there are, each with an octet in each table.
 const CIRCUITS: usize = 4096;
 
+// How many totals there are, one for each 64 circuits.
+const BLOCKS: usize = 64;
+
 // The octets of scratch that a line asks for.
 const SCRATCH_LEAST: usize = 4168;
 
-// The answer's line to a request past BICC's: one of SCCP's, or one that lists parameters; any other is a bad line.
+// The answer's line to a request past BICC's that changes no table: one of SCCP's, or one that lists parameters; any other is a bad line.
 fn further_line(request: Request, octets: &[u8], out: &mut [u8]) -> usize
     ensures { λ r. ⌜ sheet (now (out .exit)) r ≡ pour (sheet (now (out .entry)) 0) (furtherLine (request .which) (saidIn (now (octets .entry)) (request .fields))) ⌝ }
 {
@@ -35,6 +40,26 @@ fn further_line(request: Request, octets: &[u8], out: &mut [u8]) -> usize
     printing::put_text(b"bad line", out, 0)
 }
 
+// The answer's line to a request past BICC's, those about the totals too.
+fn further_turn(
+    request: Request,
+    octets: &[u8],
+    states: &[u8],
+    totals: &mut [u8],
+    out: &mut [u8],
+) -> usize
+    ensures { λ r. ⌜ busyLeft (now (totals .exit)) (sheet (now (out .exit)) r) ≡
+        busyLeftBy (furtherDone (now (states .entry)) (now (totals .entry)) (request .which) (saidIn (now (octets .entry)) (request .fields))) (sheet (now (out .entry)) 0) ⌝ }
+{
+    if request.which < BUSY {
+        return further_line(request, octets, out);
+    }
+    if request.which <= REBUILD {
+        return busy_lines::busy_turn(request, states, totals, out);
+    }
+    printing::put_text(b"bad line", out, 0)
+}
+
 // The answer's line to a request, by its family.
 fn answer_request(
     request: Request,
@@ -42,10 +67,11 @@ fn answer_request(
     states: &mut [u8],
     owners: &mut [u8],
     helpers: &mut [u8],
+    totals: &mut [u8],
     out: &mut [u8],
 ) -> usize
-    ensures { λ r. ⌜ left (tables (now (states .exit)) (now (owners .exit)) (now (helpers .exit))) (sheet (now (out .exit)) r) ≡
-        leftBy (turnBy (tables (now (states .entry)) (now (owners .entry)) (now (helpers .entry))) (request .which) (saidIn (now (octets .entry)) (request .fields))) (sheet (now (out .entry)) 0) ⌝ }
+    ensures { λ r. ⌜ left (deskTables (now (states .exit)) (now (owners .exit)) (now (helpers .exit)) (now (totals .exit))) (sheet (now (out .exit)) r) ≡
+        leftBy (turnBy (deskTables (now (states .entry)) (now (owners .entry)) (now (helpers .entry)) (now (totals .entry))) (request .which) (saidIn (now (octets .entry)) (request .fields))) (sheet (now (out .entry)) 0) ⌝ }
 {
     if request.which < NUMBER {
         return codec_lines::codec_line(request, octets, out);
@@ -54,13 +80,13 @@ fn answer_request(
         return number_lines::numbers_line(request, octets, out);
     }
     if request.which < ACT {
-        return table_lines::table_turn(request, states, owners, helpers, out);
+        return table_lines::table_turn(request, states, owners, helpers, totals, out);
     }
     if request.which == ACT {
-        return table_lines::act_turn(request, octets, states, owners, helpers, out);
+        return table_lines::act_turn(request, octets, states, owners, helpers, totals, out);
     }
     if request.which <= UNBLOCK {
-        return block_lines::block_turn(request, states, out);
+        return block_lines::block_turn(request, states, totals, out);
     }
     if request.which <= VELOCITY_BACK_LONG {
         return velocity_lines::velocities_line(request, octets, out);
@@ -68,7 +94,7 @@ fn answer_request(
     if request.which <= BICC_COMPACT {
         return bicc_lines::bicc_line(request, octets, out);
     }
-    further_line(request, octets, out)
+    further_turn(request, octets, states, totals, out)
 }
 
 // The answer's line to a line.
@@ -77,11 +103,12 @@ fn answer_line(
     states: &mut [u8],
     owners: &mut [u8],
     helpers: &mut [u8],
+    totals: &mut [u8],
     scratch: &mut [u8],
     out: &mut [u8],
 ) -> usize
-    ensures { λ r. ⌜ left (tables (now (states .exit)) (now (owners .exit)) (now (helpers .exit))) (sheet (now (out .exit)) r) ≡
-        leftBy (turnIn (length (now (scratch .entry))) (now (line .entry)) (tables (now (states .entry)) (now (owners .entry)) (now (helpers .entry)))) (sheet (now (out .entry)) 0) ⌝ }
+    ensures { λ r. ⌜ left (deskTables (now (states .exit)) (now (owners .exit)) (now (helpers .exit)) (now (totals .exit))) (sheet (now (out .exit)) r) ≡
+        leftBy (turnIn (length (now (scratch .entry))) (now (line .entry)) (deskTables (now (states .entry)) (now (owners .entry)) (now (helpers .entry)) (now (totals .entry)))) (sheet (now (out .entry)) 0) ⌝ }
 {
     if scratch.len() < SCRATCH_LEAST {
         return printing::put_text(b"bad line", out, 0);
@@ -95,8 +122,11 @@ fn answer_line(
     if helpers.len() != CIRCUITS {
         return lines::say_refusal(16, out);
     }
+    if totals.len() != BLOCKS {
+        return lines::say_refusal(16, out);
+    }
     let request = requests::request_of(line, scratch);
-    answer_request(request, scratch, states, owners, helpers, out)
+    answer_request(request, scratch, states, owners, helpers, totals, out)
 }
 
 // Answers a line: the tables are as the request left them, and the answer's line, with its LF, is at the front of `out`. Answers how many octets it has.
@@ -107,12 +137,13 @@ pub fn answer(
     states: &mut [u8],
     owners: &mut [u8],
     helpers: &mut [u8],
+    totals: &mut [u8],
     scratch: &mut [u8],
     out: &mut [u8],
 ) -> usize
-    ensures { λ r. ⌜ left (tables (now (states .exit)) (now (owners .exit)) (now (helpers .exit))) (sheet (now (out .exit)) r) ≡
-        withLineEnd (leftBy (turnIn (length (now (scratch .entry))) (now (line .entry)) (tables (now (states .entry)) (now (owners .entry)) (now (helpers .entry)))) (sheet (now (out .entry)) 0)) ⌝ }
+    ensures { λ r. ⌜ left (deskTables (now (states .exit)) (now (owners .exit)) (now (helpers .exit)) (now (totals .exit))) (sheet (now (out .exit)) r) ≡
+        withLineEnd (leftBy (turnIn (length (now (scratch .entry))) (now (line .entry)) (deskTables (now (states .entry)) (now (owners .entry)) (now (helpers .entry)) (now (totals .entry)))) (sheet (now (out .entry)) 0)) ⌝ }
 {
-    let end = answer_line(line, states, owners, helpers, scratch, out);
+    let end = answer_line(line, states, owners, helpers, totals, scratch, out);
     printing::put_octet(b'\n', out, end)
 }

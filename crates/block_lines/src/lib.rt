@@ -1,4 +1,4 @@
-// What the desk answers to the requests that block a circuit from our side, or end that (block, unblock), and what they leave in the states.
+// What the desk answers to the requests that block a circuit from our side, or end that (block, unblock), and what they leave in the states and the totals.
 ghost use mathlib.Core.Path.{_≡_};
 ghost use mathlib.Core.List.{[]};
 ghost use Rattle.octets.specs.Told.{writtenTold};
@@ -20,15 +20,21 @@ fn say_noticed(noticed: Written, buffer: &[u8], out: &mut [u8]) -> usize
 }
 
 // Sets the block of a circuit from our side, or clears it, puts the line with the BLO or UBL to send at the front of `out`, and answers the next place. Its fields are numbers, so the scratch says nothing of them.
-pub fn block_turn(request: Request, states: &mut [u8], out: &mut [u8]) -> usize
-    ensures { λ r. ⌜ blocked (now (states .exit)) (sheet (now (out .exit)) r) ≡
-        blockedBy (blockDone (now (states .entry)) (request .which) (saidIn [] (request .fields))) (sheet (now (out .entry)) 0) ⌝ }
+pub fn block_turn(request: Request, states: &mut [u8], totals: &mut [u8], out: &mut [u8]) -> usize
+    ensures { λ r. ⌜ blocked (now (states .exit)) (now (totals .exit)) (sheet (now (out .exit)) r) ≡
+        blockedBy (blockDone (now (states .entry)) (now (totals .entry)) (request .which) (saidIn [] (request .fields))) (sheet (now (out .entry)) 0) ⌝ }
 {
     let fields = request.fields;
     let circuit = fields[0];
     let room = fields[1];
     let mut space = lines::blank_space();
     let buffer = lines::front(&mut space, room.value as usize);
-    let noticed = hub::desk_call(states, circuit.value, request.which == BLOCK, buffer);
+    let noticed = board::desk_call(
+        states,
+        totals,
+        circuit.value,
+        request.which == BLOCK,
+        buffer,
+    );
     say_noticed(noticed, buffer, out)
 }

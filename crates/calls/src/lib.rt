@@ -1,4 +1,4 @@
-// BICC for C and Rust: reading and writing. With `llachurep` and `families` they are one library.
+// BICC for C and Rust: reading and writing. With `llachurep`, `families` and `circuits` they are one library.
 // They are a crate of their own so that its object has one reader and one writer of parts, which the compiler puts where they are called.
 ghost use mathlib.Core.Path.{_≡_};
 ghost use Prim.Native.Nat.{ℕ, _+_, _*_, _≤_};

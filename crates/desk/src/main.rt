@@ -28,11 +28,20 @@ fn serve(
     states: &mut [u8],
     owners: &mut [u8],
     helpers: &mut [u8],
+    totals: &mut [u8],
     scratch: &mut [u8],
     out: &mut [u8],
 ) -> bool {
     if length <= line.len() {
-        let n = answers::answer(&line[0..length], states, owners, helpers, scratch, out);
+        let n = answers::answer(
+            &line[0..length],
+            states,
+            owners,
+            helpers,
+            totals,
+            scratch,
+            out,
+        );
         if n <= out.len() {
             return io::write_all(STDOUT_FILENO, &out[0..n]);
         }
@@ -60,6 +69,7 @@ fn take_octet(
     states: &mut [u8],
     owners: &mut [u8],
     helpers: &mut [u8],
+    totals: &mut [u8],
     scratch: &mut [u8],
     out: &mut [u8],
     written: &mut bool,
@@ -71,6 +81,7 @@ fn take_octet(
             states,
             owners,
             helpers,
+            totals,
             scratch,
             out,
         );
@@ -87,6 +98,7 @@ fn take_in(
     states: &mut [u8],
     owners: &mut [u8],
     helpers: &mut [u8],
+    totals: &mut [u8],
     scratch: &mut [u8],
     out: &mut [u8],
     written: &mut bool,
@@ -104,6 +116,7 @@ fn take_in(
             states,
             owners,
             helpers,
+            totals,
             scratch,
             out,
             written,
@@ -121,6 +134,7 @@ fn read_some(
     states: &mut [u8],
     owners: &mut [u8],
     helpers: &mut [u8],
+    totals: &mut [u8],
     scratch: &mut [u8],
     out: &mut [u8],
     written: &mut bool,
@@ -140,6 +154,7 @@ fn read_some(
         states,
         owners,
         helpers,
+        totals,
         scratch,
         out,
         written,
@@ -154,6 +169,7 @@ fn read_all(
     states: &mut [u8],
     owners: &mut [u8],
     helpers: &mut [u8],
+    totals: &mut [u8],
     scratch: &mut [u8],
     out: &mut [u8],
     written: &mut bool,
@@ -168,6 +184,7 @@ fn read_all(
             states,
             owners,
             helpers,
+            totals,
             scratch,
             out,
             written,
@@ -195,11 +212,12 @@ fn serve_last(
     states: &mut [u8],
     owners: &mut [u8],
     helpers: &mut [u8],
+    totals: &mut [u8],
     scratch: &mut [u8],
     out: &mut [u8],
 ) -> bool {
     if 0 < held {
-        return serve(line, held, states, owners, helpers, scratch, out);
+        return serve(line, held, states, owners, helpers, totals, scratch, out);
     }
     written
 }
@@ -211,6 +229,7 @@ fn run(
     states: &mut [u8],
     owners: &mut [u8],
     helpers: &mut [u8],
+    totals: &mut [u8],
     scratch: &mut [u8],
     out: &mut [u8],
 ) {
@@ -221,11 +240,22 @@ fn run(
         states,
         owners,
         helpers,
+        totals,
         scratch,
         out,
         &mut written,
     );
-    if !serve_last(line, held, written, states, owners, helpers, scratch, out) {
+    if !serve_last(
+        line,
+        held,
+        written,
+        states,
+        owners,
+        helpers,
+        totals,
+        scratch,
+        out,
+    ) {
         tell(b"desk: an answer could not be written, and the desk ends there\n");
     }
 }
@@ -234,6 +264,7 @@ fn main() {
     let mut states = io::buffer();
     let mut owners = io::buffer();
     let mut helpers = io::buffer();
+    let mut totals = [0u8; 64];
     let mut chunk = io::large_buffer();
     let mut line = io::large_buffer();
     let mut scratch = io::large_buffer();
@@ -244,6 +275,7 @@ fn main() {
         &mut states,
         &mut owners,
         &mut helpers,
+        &mut totals,
         &mut scratch,
         &mut out,
     );

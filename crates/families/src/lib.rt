@@ -1,4 +1,4 @@
-// The boundary's functions that serve every family of messages: reading and writing again. With `llachurep`, `calls` and `roaming` they are one library for C and Rust.
+// The boundary's functions that serve every family of messages: reading and writing again. With `llachurep`, `calls`, `roaming` and `circuits` they are one library for C and Rust.
 // They are a crate of their own so that its object has one reader and one writer of parts, which the compiler puts where they are called.
 ghost use mathlib.Core.Path.{_≡_};
 ghost use Prim.Native.Nat.{ℕ, _+_, _*_, _≤_};

@@ -16,3 +16,4 @@ pub mod Refutations
 pub mod Unhelped
 pub mod Orders
 pub mod OneBuffer
+pub mod Deeds

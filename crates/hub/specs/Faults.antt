@@ -59,14 +59,17 @@ answerSize kind r row =
 abbrev pub NoRoom : List ℕ → List ℕ → ℕ → Message → Type 0
 NoRoom states m room x = room < answerSize (x .kind) (rangeGiven m x) (octet states (x .circuit))
 
--- what a call may be refused for
-abbrev pub actFaults : Tables → ℕ → List ℕ → ℕ → List Fault
-actFaults T sender m room =
-    fault 16 0 (WrongTables T)
-    ∷ (askFaults m
+-- what a call may be refused for, once the tables have their lengths
+abbrev pub pastTables : Tables → ℕ → List ℕ → ℕ → List Fault
+pastTables T sender m room =
+    askFaults m
     ++ (fault 19 0 (Reads m (Foreign T sender m))
     ∷ fault 22 0 (Reads m (OnlyHelped T sender m))
     ∷ fault 20 0 (Reads m (Illegal (T .states) m))
     ∷ fault 21 0 (Reads m (Taken (T .states)))
     ∷ fault 13 0 (Reads m (NoRoom (T .states) m room))
-    ∷ []))
+    ∷ [])
+
+-- what a call may be refused for
+abbrev pub actFaults : Tables → ℕ → List ℕ → ℕ → List Fault
+actFaults T sender m room = fault 16 0 (WrongTables T) ∷ pastTables T sender m room

@@ -9,3 +9,4 @@ pub mod Names
 pub mod Faults
 pub mod Rules
 pub mod Arrival
+pub mod Deeds

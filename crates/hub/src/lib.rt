@@ -11,6 +11,7 @@ ghost use Rattle.hub.specs.Rows.{rowsAfter};
 ghost use Rattle.hub.specs.Replies.{statusIn, replyOf};
 ghost use Rattle.hub.specs.Acts.{isTaken, permittedOf, judgedOf, after, actOf};
 ghost use Rattle.hub.specs.Inside.{againstOf};
+ghost use Rattle.hub.specs.Deeds.{handling, handledOf, handledTold};
 ghost use Rattle.hub.specs.Desk.{deskOf};
 ghost use Rattle.octets.specs.Filled.{leaving};
 ghost use Rattle.octets.specs.Told.{writtenTold};
@@ -20,6 +21,12 @@ use asks::Verdict;
 use octets::Written;
 use rows::Act;
 use rows::CIRCUITS;
+
+// What a call did: how many octets its answer has, and the first and the last circuit that its message names; or the refusal's number with the octet that it is about.
+pub enum Handled {
+    Done(usize, usize, usize),
+    Refused(u8, usize),
+}
 
 // The first circuit that a search came upon, or none.
 enum Search {
@@ -277,8 +284,33 @@ fn judge(states: &[u8], owners: &[u8], helpers: &[u8], sender: u32, message: &[u
     }
 }
 
-// A message from a sender: the answer's octets fill the front of `answer` and their count is given, and the named rows of `states` change.
+// A message from a sender: the answer's octets fill the front of `answer` and the named rows of `states` change. The answer has how many octets they are, and which circuits are named.
 // Refused by the paper's order, the reader's numbers with the octet that they are about; a refusal changes no row and no octet of `answer`.
+pub fn handle(
+    states: &mut [u8],
+    owners: &[u8],
+    helpers: &[u8],
+    sender: u32,
+    message: &[u8],
+    answer: &mut [u8],
+) -> Handled
+    ensures { λ r. ⌜ handling (handledTold r) (now (states .exit)) (now (answer .exit)) ≡
+        handledOf (tables (now (states .entry)) (now (owners .entry)) (now (helpers .entry))) sender (now (message .entry)) (now (answer .entry)) ⌝ }
+{
+    match judge(states, owners, helpers, sender, message) {
+        Verdict::Refused(n, at) => Handled::Refused(n, at),
+        Verdict::Granted(ask) => match write_reply(states, message, ask, answer) {
+            Written::Refused(n, at) => Handled::Refused(n, at),
+            Written::Octets(n) => {
+                change_rows(states, message, ask);
+                let first = ask.circuit;
+                Handled::Done(n, first, first + ask.range)
+            }
+        },
+    }
+}
+
+// The same for whoever keeps nothing beside the rows: how many octets the answer has, or the refusal.
 pub fn act(
     states: &mut [u8],
     owners: &[u8],
@@ -290,15 +322,9 @@ pub fn act(
     ensures { λ r. ⌜ after (writtenTold r) (now (states .exit)) (now (answer .exit)) ≡
         actOf (tables (now (states .entry)) (now (owners .entry)) (now (helpers .entry))) sender (now (message .entry)) (now (answer .entry)) ⌝ }
 {
-    match judge(states, owners, helpers, sender, message) {
-        Verdict::Refused(n, at) => Written::Refused(n, at),
-        Verdict::Granted(ask) => match write_reply(states, message, ask, answer) {
-            Written::Refused(n, at) => Written::Refused(n, at),
-            Written::Octets(n) => {
-                change_rows(states, message, ask);
-                Written::Octets(n)
-            }
-        },
+    match handle(states, owners, helpers, sender, message, answer) {
+        Handled::Refused(n, at) => Written::Refused(n, at),
+        Handled::Done(n, _, _) => Written::Octets(n),
     }
 }
 

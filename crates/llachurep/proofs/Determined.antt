@@ -2,14 +2,8 @@
 use Prim.Native.Nat.{ℕ}
 use mathlib.Core.Path.{_≡_, sym, _∙_, ap}
 use mathlib.Core.List.{List}
-use Rattle.llachurep.specs.Boundary.{Given, given, Called, called}
+use Rattle.llachurep.specs.Boundary.{Given, given}
 
 -- of the functions that are lent one buffer: `llachurep_read`, `llachurep_write`, `llachurep_find`, `llachurep_number_read`, `llachurep_number_write`
 pub boundary-determined : (g : Given) (v w : ℕ) (k l : List ℕ) → given v k ≡ g → given w l ≡ g → (v ≡ w) × (k ≡ l)
 boundary-determined g v w k l p q = let e = p ∙ sym q in (ap (λ (x : Given). x .value) e, ap (λ (x : Given). x .left) e)
-
--- of `llachurep_act` and `llachurep_block`
-pub boundary-act-determined : (g : Called) (v w : ℕ) (s t b c : List ℕ) → called v s b ≡ g → called w t c ≡ g → (v ≡ w) × (s ≡ t) × (b ≡ c)
-boundary-act-determined g v w s t b c p q =
-    let e = p ∙ sym q in
-    (ap (λ (x : Called). x .value) e, ap (λ (x : Called). x .states) e, ap (λ (x : Called). x .buffer) e)

@@ -9,14 +9,11 @@ use Rattle.octets.specs.Filled.{done, filled, roomFor}
 use Rattle.isup.specs.declared.Message.{Message}
 use Rattle.isup.specs.Read.{readOf}
 use Rattle.finding.specs.Find.{Spot, locateOf}
-use Rattle.llachurep.specs.Boundary.{Given, given, givenBy, Called, called, valuesOf, readGives, findGives}
+use Rattle.llachurep.specs.Boundary.{Given, given, givenBy, valuesOf, readGives, findGives}
 
 -- a number that was come by otherwise
 pub valued : {v w : ℕ} {l : List ℕ} {g : Given} → v ≡ w → given w l ≡ g → given v l ≡ g
 valued {v} {w} {l} {g} e h = ap (λ (x : ℕ). given x l) e ∙ h
-
-pub valued-call : {v w : ℕ} {s b : List ℕ} {g : Called} → v ≡ w → called w s b ≡ g → called v s b ≡ g
-valued-call {v} {w} {s} {b} {g} e h = ap (λ (x : ℕ). called x s b) e ∙ h
 
 module _ (m parts : List ℕ) where
   pub read-refused : (n at : ℕ) → readOf m ≡ refused n at → given (65536 * n + at) parts ≡ givenBy (readGives m parts)

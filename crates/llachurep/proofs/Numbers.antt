@@ -16,10 +16,6 @@ use Rattle.isup.specs.WriteFaults.{writeFaults}
 use Rattle.writing.specs.Write.{Order}
 use Rattle.finding.specs.Faults.{findFaults}
 use Rattle.number.specs.Faults.{readFaults, numberWriteFaults}
-use Rattle.asks.specs.Faults.{askFaults}
-use Rattle.hub.specs.Tables.{Tables}
-use Rattle.hub.specs.Faults.{actFaults}
-use Rattle.hub.specs.Desk.{deskFaults}
 use Rattle.llachurep.specs.Faults.{readGivesFaults, findGivesFaults}
 
 -- each fault of the list has a number from 1 on
@@ -63,12 +59,3 @@ number-read-from-one contents buffer = (λ _ _. omega arith, (λ _ _. omega arit
 
 pub number-write-from-one : (nature plan internal : ℕ) (signals buffer : List ℕ) → FromOne (numberWriteFaults nature plan internal signals buffer)
 number-write-from-one nature plan internal signals buffer = (λ _ _. omega arith, (λ _ _. omega arith, (λ _ _. omega arith, (λ _ _. omega arith, (λ _ _. omega arith, (λ _ _. omega arith, tt))))))
-
--- the hub's
-pub act-from-one : (T : Tables) (sender : ℕ) (m : List ℕ) (room : ℕ) → FromOne (actFaults T sender m room)
-act-from-one T sender m room =
-    (λ _ _. omega arith, each-append AtLeastOne (askFaults m) _ (each-append AtLeastOne (readerFaults m) _ (reader-from-one m) (λ _ _. omega arith, (λ _ _. omega arith, (λ _ _. omega arith, tt)))) (λ _ _. omega arith, (λ _ _. omega arith, (λ _ _. omega arith, (λ _ _. omega arith, (λ _ _. omega arith, tt))))))
-
--- the desk call's
-pub desk-from-one : (states : List ℕ) (circuit room : ℕ) → FromOne (deskFaults states circuit room)
-desk-from-one states circuit room = (λ _ _. omega arith, (λ _ _. omega arith, (λ _ _. omega arith, (λ _ _. omega arith, tt))))

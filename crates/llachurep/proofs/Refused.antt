@@ -1,14 +1,11 @@
 -- A refusal in the terms of the number that C sees: told from what is accepted by its size, with the refusal's own number, and all that was lent kept.
 use Prim.Native.Nat.{ℕ, _+_, _*_, _/_, _%_, _≤_, _<_}
 use mathlib.Core.Path.{_≡_, refl, sym, _∙_, ap}
-use mathlib.Core.Bool.{Bool}
 use mathlib.Core.List.{List}
 use native.Mathlib.Omega.{arith}
-use lib.ListN.{length}
-use Rattle.octets.specs.Octet.{AllOctets}
 use Rattle.octets.specs.Answer.{Answer, accepted, refused, _then_}
 use Rattle.octets.specs.Filled.{Done, roomFor}
-use Rattle.octets.proofs.Places.{first-so, refusal-so}
+use Rattle.octets.proofs.Places.{refusal-so}
 use Rattle.octets.proofs.Filled.{done-kept}
 use Rattle.isup.specs.Write.{writeIn, writeOf}
 use Rattle.isup.proofs.WriteBack.{write-judges}
@@ -16,22 +13,14 @@ use Rattle.number.specs.Read.{readNumberOf, numberIn}
 use Rattle.number.specs.Write.{writeNumberOf, numberOctets}
 use Rattle.number.proofs.Judged.{read-number-judged, write-number-judged}
 use Rattle.velocity.specs.declared.Velocity.{Velocity}
-use Rattle.hub.specs.Tables.{Tables}
-use Rattle.hub.specs.Acts.{After, actOf}
-use Rattle.hub.specs.Desk.{deskOf, deskFaults}
-use Rattle.hub.proofs.Desk.{desk-keeps, desk-placeless, desk-refuses-exactly}
-use Rattle.hub.specs.Faults.{actFaults}
-use Rattle.hub.proofs.Called.{act-keeps}
-use Rattle.hub.proofs.Judged.{act-refuses-exactly}
-use Rattle.hub.proofs.Places.{act-places-within}
-use Rattle.llachurep.specs.Boundary.{packed, packedNumber, Given, given, givenBy, numberGiven, Called, called, calledBy, readGives, findGives}
+use Rattle.llachurep.specs.Boundary.{packed, packedNumber, Given, given, givenBy, numberGiven, readGives, findGives}
 use Rattle.llachurep.specs.Refuses.{Refuses}
 use Rattle.llachurep.specs.Velocities.{codeGives}
-use Rattle.llachurep.proofs.Small.{write-small, read-gives-small, find-gives-small, number-read-small, number-small, act-small, desk-small}
+use Rattle.llachurep.proofs.Small.{write-small, read-gives-small, find-gives-small, number-read-small, number-small}
 use Rattle.llachurep.proofs.Places.{read-gives-place, find-gives-place, write-place, number-write-place, number-read-placeless, code-gives-place}
 use Rattle.llachurep.proofs.Keeps.{read-gives-keeps, find-gives-keeps}
 use Rattle.llachurep.proofs.Judged.{read-gives-judges, find-gives-judges}
-use Rattle.llachurep.proofs.Numbers.{AtLeastOne, read-from-one, find-from-one, write-from-one, number-read-from-one, number-write-from-one, act-from-one, desk-from-one}
+use Rattle.llachurep.proofs.Numbers.{AtLeastOne, read-from-one, find-from-one, write-from-one, number-read-from-one, number-write-from-one}
 use Rattle.llachurep.proofs.Speeds.{code-gives-small, code-gives-judges, code-gives-keeps}
 
 -- an answer whose values are below the unit, and whose refusals come times it, from 1 on, with an octet below it
@@ -50,7 +39,7 @@ module _ {A : Type 0} (unit : ℕ) (up : (n : ℕ) → 1 ≤ n → unit ≤ unit
   which-to (accepted a) e n at p h = absurd (omega (arith, h .0, under r (low a e)))
   which-to (refused k q) e n at p h = let z = halved k q e in let u = sym (z .0) ∙ h .0 in let v = sym (z .1) ∙ h .1 in e ∙ (λ i. refused (u i) (v i))
 
-  refusing : Refuses unit r answer lent left
+  pub refusing : Refuses unit r answer lent left
   refusing = record {
     whether = (whether-to answer refl, λ x. let h = high (x .0) (x .1) (x .2) in omega (arith, h .0, up (x .0) (h .1)));
     which = λ n at p. (which-to answer refl n at p, halved n at);
@@ -106,53 +95,6 @@ number-read-refuses contents buffer r left e =
     (λ x q. let w : r ≡ 65536 * x .nature + 4096 * x .internal + 256 * x .plan + x .count = v ∙ ap packedNumber q in let s = number-read-small contents buffer x q in omega (arith, s .0, s .1, s .2, s .3))
     (λ n at q. let z = number-read-placeless contents buffer n at q in (omega (arith, v ∙ ap packedNumber q, z), refusal-so AtLeastOne _ _ (read-number-judged contents buffer) (number-read-from-one contents buffer) n at q, omega (arith, z)))
     (λ n at q. ap (λ (g : Given). g .left) e ∙ done-kept buffer (numberIn contents then roomFor buffer) q)
-
--- of the calls, which are lent two lists
-call-refuses : (a : After) (lent buffer : List ℕ)
-    → ((k : ℕ) → a .answer ≡ accepted k → k < 65536)
-    → ((n at : ℕ) → a .answer ≡ refused n at → (1 ≤ n) × (at < 65536) × (a .states ≡ lent) × (a .buffer ≡ buffer))
-    → (r : ℕ) (states left : List ℕ) → called r states left ≡ calledBy a → Refuses 65536 r (a .answer) lent states × Refuses 65536 r (a .answer) buffer left
-call-refuses a lent buffer small so r states left e = (
-  refusing 65536 (λ n h. omega arith) (λ n at h. (omega arith, omega arith)) (λ k h. omega arith) r (a .answer) lent states low high (λ n at q. ap (λ (g : Called). g .states) e ∙ so n at q .2),
-  refusing 65536 (λ n h. omega arith) (λ n at h. (omega arith, omega arith)) (λ k h. omega arith) r (a .answer) buffer left low high (λ n at q. ap (λ (g : Called). g .buffer) e ∙ so n at q .3),
-)
-  where
-    value-of : r ≡ packed (a .answer)
-    value-of = ap (λ (g : Called). g .value) e
-
-    low : (k : ℕ) → a .answer ≡ accepted k → r < 65536
-    low k q = let v : r ≡ k = value-of ∙ ap packed q in omega (arith, small k q)
-
-    high : (n at : ℕ) → a .answer ≡ refused n at → (r ≡ 65536 * n + at) × (1 ≤ n) × (at < 65536)
-    high n at q = (value-of ∙ ap packed q, so n at q .0, so n at q .1)
-
--- of a message
-pub act-refuses : (T : Tables) (sender : ℕ) (m buffer : List ℕ) → AllOctets m → (r : ℕ) (states left : List ℕ) → called r states left ≡ calledBy (actOf T sender m buffer)
-    → Refuses 65536 r (actOf T sender m buffer .answer) (T .states) states × Refuses 65536 r (actOf T sender m buffer .answer) buffer left
-act-refuses T sender m buffer o =
-    call-refuses (actOf T sender m buffer) (T .states) buffer
-    (λ k q. omega (arith, act-small T sender m buffer k o q))
-    (λ n at q.
-    let k = act-keeps T sender m buffer n at q in (
-      first-so AtLeastOne (actFaults T sender m (length buffer)) n at (act-from-one T sender m (length buffer)) (act-refuses-exactly T sender m buffer n at .0 q),
-      omega (arith, act-places-within T sender m buffer n at q),
-      k .0,
-      k .1,
-    ))
-
--- and of a desk call
-pub block-refuses : (states : List ℕ) (circuit : ℕ) (set : Bool) (buffer : List ℕ) (r : ℕ) (states′ left : List ℕ) → called r states′ left ≡ calledBy (deskOf states circuit set buffer)
-    → Refuses 65536 r (deskOf states circuit set buffer .answer) states states′ × Refuses 65536 r (deskOf states circuit set buffer .answer) buffer left
-block-refuses states circuit set buffer =
-    call-refuses (deskOf states circuit set buffer) states buffer
-    (λ k q. omega (arith, desk-small states circuit set buffer k q))
-    (λ n at q.
-    let k = desk-keeps states circuit set buffer n at q in (
-      first-so AtLeastOne (deskFaults states circuit (length buffer)) n at (desk-from-one states circuit (length buffer)) (desk-refuses-exactly states circuit set buffer n at .0 q),
-      omega (arith, desk-placeless states circuit set buffer n at q),
-      k .0,
-      k .1,
-    ))
 
 -- of coding a velocity
 pub code-refuses : (v : Velocity) (codes : List ℕ) (r : ℕ) (left : List ℕ) → given r left ≡ givenBy (codeGives v codes) → Refuses 65536 r (codeGives v codes .answer) codes left

@@ -9,7 +9,6 @@ use native.Mathlib.Nat.{mod-lt}
 use borrow.Author.Tests.{ltb-false}
 use lib.Dec.{ltb}
 use lib.ListN.{length}
-use Rattle.octets.specs.Octet.{AllOctets, octet}
 use Rattle.octets.specs.Choice.{if_then_else_}
 use Rattle.octets.specs.Answer.{Answer, accepted, refused, _then_}
 use Rattle.octets.specs.Filled.{Done, done, leaving, roomFor}
@@ -26,14 +25,6 @@ use Rattle.number.specs.Contents.{halfCount, oddBit, fillerIn, countIn, natureI
 use Rattle.number.specs.Read.{readNumberOf, numberIn}
 use Rattle.number.specs.Write.{anyAbove15, writeNumberOf, numberOctets}
 use Rattle.number.proofs.Laws.{length-packed}
-use Rattle.asks.proofs.Reading.{ask-sound}
-use Rattle.hub.specs.Tables.{Tables}
-use Rattle.replies.proofs.Writing.{reply-length}
-use Rattle.hub.specs.Acts.{actOf}
-use Rattle.hub.specs.Desk.{deskOf}
-use Rattle.hub.proofs.Desk.{desk-called}
-use Rattle.hub.proofs.Writing.{length-reply}
-use Rattle.hub.proofs.Called.{call-accepted}
 use Rattle.finding.specs.Find.{locateOf}
 use Rattle.finding.proofs.Spots.{located-says}
 use Rattle.octets.proofs.Filled.{done-accepted}
@@ -129,14 +120,3 @@ number-small nature plan internal signals buffer n e =
     let f = past-test 14 0 (anyAbove15 signals) (d .1) in
     let q = ap (λ (y : ℕ × List ℕ). y .0) (accepted-same (f .1)) in
     omega (arith, ltb-false 30 (length signals) (d .0), length-packed signals)
-
--- the hub's answer has 40 octets at the most
-pub act-small : (T : Tables) (sender : ℕ) (m buffer : List ℕ) (n : ℕ) → AllOctets m → actOf T sender m buffer .answer ≡ accepted n → n ≤ 40
-act-small T sender m buffer n o e =
-    let k = call-accepted T sender m buffer n e in
-    let s = ask-sound m (k .ask) o (k .allowed .asks) in
-    omega (arith, k .count, length-reply (T .states) m (k .ask), reply-length (k .ask .act) (k .ask .range) (octet (T .states) (k .ask .circuit)) (s .few) (s .fewer))
-
--- a desk call's answer has three
-pub desk-small : (states : List ℕ) (circuit : ℕ) (set : Bool) (buffer : List ℕ) (n : ℕ) → deskOf states circuit set buffer .answer ≡ accepted n → n ≤ 3
-desk-small states circuit set buffer n e = omega (arith, desk-called states circuit set buffer n e .count)

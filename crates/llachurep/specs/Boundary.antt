@@ -12,7 +12,6 @@ use Rattle.isup.specs.declared.Message.{Message}
 use Rattle.isup.specs.Read.{readOf}
 use Rattle.finding.specs.Find.{locateOf}
 use Rattle.number.specs.declared.Number.{Number}
-use Rattle.hub.specs.Acts.{After}
 
 -- what is accepted gives its value, a refusal its number and its octet
 abbrev pub packed : Answer ℕ → ℕ
@@ -77,17 +76,3 @@ packedNumber (refused n at) = 4294967296 * n
 -- what reading a number gives: its answer as one number, and the buffer
 abbrev pub numberGiven : Done Number → Given
 numberGiven d = given (packedNumber (d .answer)) (d .left)
-
--- a number, and what the states and the answer buffer hold afterwards
-pub record Called : Type 0 where
-  pub value : ℕ
-  pub states : List ℕ
-  pub buffer : List ℕ
-
--- the three together
-abbrev pub called : ℕ → List ℕ → List ℕ → Called
-called value states buffer = record { value = value; states = states; buffer = buffer }
-
--- what the hub gives: its answer as one number, and both lists
-abbrev pub calledBy : After → Called
-calledBy a = called (packed (a .answer)) (a .states) (a .buffer)

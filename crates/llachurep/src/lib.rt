@@ -1,21 +1,16 @@
-// The boundary: the proved functions for C and Rust; those that serve both families of messages are in `families`. Answers are one number, 65536 * N + v: N is the refusal's number, 0 where there is none; v is then the octet that it is about, 0 where it is about none. A refusal changes nothing that was lent.
+// The boundary: the proved functions for C and Rust; those that serve both families of messages are in `families`, BICC's in `calls`, those on the tables of circuits in `circuits`. Answers are one number, 65536 * N + v: N is the refusal's number, 0 where there is none; v is then the octet that it is about, 0 where it is about none. A refusal changes nothing that was lent.
 ghost use mathlib.Core.Path.{_≡_};
 ghost use Prim.Native.Nat.{ℕ, _+_, _*_, _≤_};
 ghost use lib.ListN.{length};
 ghost use mathlib.Core.List.{[], _∷_};
-ghost use mathlib.Core.Bool.{not};
-ghost use lib.Dec.{eqb};
 ghost use Rattle.octets.specs.Answer.{accepted, refused};
 ghost use Rattle.octets.specs.Filled.{done, roomFor, filled};
 ghost use Rattle.isup.specs.Write.{writeOf};
 ghost use Rattle.number.specs.Read.{readNumberOf};
 ghost use Rattle.number.specs.Write.{writeNumberOf};
-ghost use Rattle.hub.specs.Tables.{tables};
-ghost use Rattle.hub.specs.Acts.{actOf};
-ghost use Rattle.hub.specs.Desk.{deskOf};
 ghost use Rattle.octets.specs.Told.{writtenTold};
 ghost use Rattle.layout.specs.Spans.{spanSize};
-ghost use Rattle.llachurep.specs.Boundary.{packed, given, givenBy, fixedStart, valuesOf, Small, readGives, findGives, numberGiven, called, calledBy};
+ghost use Rattle.llachurep.specs.Boundary.{packed, given, givenBy, fixedStart, valuesOf, Small, readGives, findGives, numberGiven};
 
 pub mod velocities;
 
@@ -175,34 +170,4 @@ pub extern "C" fn llachurep_number_write(
     ensures { λ r. ⌜ given r (now (out .exit)) ≡ givenBy (writeNumberOf nature plan internal (now (signals .entry)) (now (out .entry))) ⌝ }
 {
     written(number::write_number(nature, plan, internal, signals, out))
-}
-
-// A message from a sender. Accepted: how many octets the answer has, at the front of `answer`; the named rows of `states` change. Refused with 16, the reader's numbers and octets, 17, 14, 18, 19, 22, 20, 21, 13.
-#[no_mangle]
-pub extern "C" fn llachurep_act(
-    states: &mut [u8],
-    owners: &[u8],
-    helpers: &[u8],
-    sender: u32,
-    message: &[u8],
-    answer: &mut [u8],
-) -> u32
-    ensures { λ r. ⌜ called r (now (states .exit)) (now (answer .exit)) ≡
-        calledBy (actOf (tables (now (states .entry)) (now (owners .entry)) (now (helpers .entry))) sender (now (message .entry)) (now (answer .entry))) ⌝ }
-{
-    written(hub::act(states, owners, helpers, sender, message, answer))
-}
-
-// Our own block on a circuit: 0 for `set` clears it, anything else sets it. Accepted: 3, and the BLO or UBL to send stands at the front of `answer`; the circuit's row changes. Refused with 16, 9, 20, 13.
-#[no_mangle]
-pub extern "C" fn llachurep_block(
-    states: &mut [u8],
-    circuit: u32,
-    set: u32,
-    answer: &mut [u8],
-) -> u32
-    ensures { λ r. ⌜ called r (now (states .exit)) (now (answer .exit)) ≡
-        calledBy (deskOf (now (states .entry)) circuit (not (eqb set 0)) (now (answer .entry))) ⌝ }
-{
-    written(hub::desk_call(states, circuit, set != 0, answer))
 }

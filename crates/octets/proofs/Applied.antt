@@ -63,3 +63,9 @@ pub set-beyond : (l : List ℕ) (k v : ℕ) → length l ≤ k → set l k v ≡
 set-beyond [] k v h = refl
 set-beyond (x ∷ xs) zero v h = absurd (omega arith)
 set-beyond (x ∷ xs) (suc k) v h = ap (λ r. x ∷ r) (set-beyond xs k v (omega arith))
+
+-- so from the end on there is nothing to change
+pub applied-beyond : (f : ℕ → ℕ → ℕ) (k n : ℕ) (l : List ℕ) → length l ≤ k → applied f k n l ≡ l
+unfolding applied
+applied-beyond f k zero l h = refl
+applied-beyond f k (suc n) l h = ap (applied f (suc k) n) (set-beyond l k _ h) ∙ applied-beyond f (suc k) n l (omega arith)

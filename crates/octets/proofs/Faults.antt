@@ -100,3 +100,16 @@ judges-then (refused n′ at′) g fs gs j k =
 pub judges-choice : {A : Type 0} {x y : Answer A} {fs : List Fault} (t : Bool) → (t ≡ true → Judges x fs) → (t ≡ false → Judges y fs) → Judges (if t then x else y) fs
 judges-choice true f g = f refl
 judges-choice false f g = g refl
+
+-- the first fault said in other words
+pub judges-first : {A : Type 0} {y : Answer A} {P Q : Type 0} {n q : ℕ} {fs : List Fault} → (P → Q) → (Q → P) → Judges y (fault n q P ∷ fs) → Judges y (fault n q Q ∷ fs)
+judges-first f g j = record {
+  refuses = λ k at. (
+    λ e. ⊎-elim (λ w. inl (w .0, (w .1 .0, f (w .1 .1)))) (λ w. inr (λ a h. w .0 a (h .0, g (h .1)), w .1)) (j .refuses k at .0 e),
+    λ e. j .refuses k at .1 (⊎-elim (λ w. inl (w .0, (w .1 .0, g (w .1 .1)))) (λ w. inr (λ a h. w .0 a (h .0, f (h .1)), w .1)) e),
+  );
+  accepts = (
+    λ e. let w = j .accepts .0 e in (λ a h. w .0 a (h .0, g (h .1)), w .1),
+    λ e. j .accepts .1 (λ a h. e .0 a (h .0, f (h .1)), e .1),
+  );
+}

@@ -6,7 +6,7 @@ use Rattle.words.specs.Digits.{valueOf}
 use Rattle.words.specs.Words.{same, digitsFrom, numberOf, allDigits, octetOf, areOctets, pairsOf, octetsOf}
 use Rattle.requests.specs.Kinds.{fieldSays}
 use Rattle.requests.specs.Table.{mostOf, kindOf}
-use Rattle.requests.specs.Rows.{FIND, DIAL, ROWS, VELOCITY-LONG}
+use Rattle.requests.specs.Rows.{FIND, DIAL, ROWS, VELOCITY-LONG, TOTALS}
 use Rattle.requests.specs.Words.{lettered, wordsOf, wordsSay, asking, nothing, askedBy, askedByTable, askedOf}
 
 -- a sender of 256, which a circuit may be
@@ -69,3 +69,17 @@ long-asked = refl
 pub nineteen-refuted : askedOf (said "velocity 1 0000000000000000000") ≡ nothing
 unfolding askedOf askedByTable askedBy wordsOf lettered same wordsSay kindOf mostOf
 nineteen-refuted = refl
+
+-- a block past the last
+pub block-64-refuted : askedOf (said "total 64 0") ≡ nothing
+unfolding askedOf askedByTable askedBy wordsOf lettered same wordsSay kindOf mostOf numberOf digitsFrom valueOf
+block-64-refuted = refl
+
+-- a request with no field, and the same with a word left
+pub bare-asked : askedOf (said "totals") ≡ asking TOTALS []
+unfolding askedOf askedByTable askedBy wordsOf lettered same wordsSay
+bare-asked = refl
+
+pub bare-left-refuted : askedOf (said "totals 0") ≡ nothing
+unfolding askedOf askedByTable askedBy wordsOf lettered same wordsSay
+bare-left-refuted = refl

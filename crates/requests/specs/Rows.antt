@@ -117,6 +117,22 @@ BICC-LIST = 27
 abbrev pub SCCP-LIST : ℕ
 SCCP-LIST = 28
 
+-- busy FIRST LAST
+abbrev pub BUSY : ℕ
+BUSY = 29
+
+-- totals
+abbrev pub TOTALS : ℕ
+TOTALS = 30
+
+-- total BLOCK VALUE
+abbrev pub TOTAL : ℕ
+TOTAL = 31
+
+-- rebuild
+abbrev pub REBUILD : ℕ
+REBUILD = 32
+
 -- a line that is no request
 abbrev pub BAD : ℕ
 BAD = 255

@@ -28,6 +28,10 @@ circuitMost = 4095
 abbrev pub octetMost : ℕ
 octetMost = 255
 
+-- the last block of circuits
+abbrev pub blockMost : ℕ
+blockMost = 63
+
 -- the largest code of a bearing or of a speed
 abbrev pub codeMost : ℕ
 codeMost = 65535
@@ -44,11 +48,12 @@ octetsMost = 1024
 abbrev pub letter : String → ℕ
 letter text = getD (said text) 0 0
 
--- the limit of a number by its letter: c a circuit, v a sender, a state or a vertical code, h a bearing's or a speed's code, r room; any other (n) any number
+-- the limit of a number by its letter: c a circuit, v a sender, a state, a total or a vertical code, b a block of circuits, h a bearing's or a speed's code, r room; any other (n) any number
 unfoldable pub mostOf : ℕ → ℕ
 mostOf l =
     if eqb l (letter "c") then circuitMost
     else if eqb l (letter "v") then octetMost
+    else if eqb l (letter "b") then blockMost
     else if eqb l (letter "h") then codeMost
     else if eqb l (letter "r") then roomMost
     else anyMost
@@ -103,6 +108,10 @@ forms =
     ∷ row "list" "s"
     ∷ row "bicc-list" "s"
     ∷ row "sccp-list" "s"
+    ∷ row "busy" "nn"
+    ∷ row "totals" ""
+    ∷ row "total" "bv"
+    ∷ row "rebuild" ""
     ∷ []
 
 -- the kinds of a form's fields

@@ -110,6 +110,18 @@ pub const BICC_LIST: usize = 27;
 // sccp-list MESSAGE
 pub const SCCP_LIST: usize = 28;
 
+// busy FIRST LAST
+pub const BUSY: usize = 29;
+
+// totals
+pub const TOTALS: usize = 30;
+
+// total BLOCK VALUE
+pub const TOTAL: usize = 31;
+
+// rebuild
+pub const REBUILD: usize = 32;
+
 // A line that is no request.
 pub const BAD: usize = 255;
 
@@ -127,6 +139,9 @@ const CIRCUIT_MOST: u32 = 4095;
 
 // The largest number of one octet.
 const OCTET_MOST: u32 = 255;
+
+// The last block of circuits.
+const BLOCK_MOST: u32 = 63;
 
 // The largest code of a bearing or of a speed.
 const CODE_MOST: u32 = 65535;
@@ -180,6 +195,9 @@ fn most(letter: u8) -> u32
     }
     if letter == b'v' {
         return OCTET_MOST;
+    }
+    if letter == b'b' {
+        return BLOCK_MOST;
     }
     if letter == b'h' {
         return CODE_MOST;
@@ -517,6 +535,30 @@ fn row_of(key: u64) -> Row
         7816966094999 => Row {
             which: SCCP_LIST,
             letters: 0x73,
+            longer: 0,
+        },
+        // busy nn
+        564286 => Row {
+            which: BUSY,
+            letters: 0x6e6e,
+            longer: 0,
+        },
+        // totals
+        334410936 => Row {
+            which: TOTALS,
+            letters: 0,
+            longer: 0,
+        },
+        // total bv
+        7413944 => Row {
+            which: TOTAL,
+            letters: 0x7662,
+            longer: 0,
+        },
+        // rebuild
+        2140080254 => Row {
+            which: REBUILD,
+            letters: 0,
             longer: 0,
         },
         _ => Row {

@@ -3,24 +3,23 @@ use Prim.Native.Nat.{ℕ}
 use mathlib.Core.Path.{_≡_, ap}
 use mathlib.Core.List.{List, []}
 use Rattle.octets.proofs.Answer.{one-answer}
-use Rattle.hub.specs.Tables.{Tables, tables}
 use Rattle.printing.specs.Sheet.{sheet}
 use Rattle.requests.specs.declared.Request.{Request}
 use Rattle.requests.specs.Along.{saidIn}
-use Rattle.table_lines.specs.Tables.{Left, left, leftBy, tableTurn, actTurn}
+use Rattle.table_lines.specs.Tables.{DeskTables, Left, left, leftBy, tableTurn, actTurn}
 
 -- two outcomes that are one
-pub left-determined : {l : Left} {T U : Tables} {a b : List ℕ} {r q : ℕ} → left T (sheet a r) ≡ l → left U (sheet b q) ≡ l → (T ≡ U) × (a ≡ b) × (r ≡ q)
+pub left-determined : {l : Left} {T U : DeskTables} {a b : List ℕ} {r q : ℕ} → left T (sheet a r) ≡ l → left U (sheet b q) ≡ l → (T ≡ U) × (a ≡ b) × (r ≡ q)
 left-determined p e = let s = one-answer p e in (ap (λ (x : Left). x .tables) s, ap (λ (x : Left). x .sheet .octets) s, ap (λ (x : Left). x .sheet .at) s)
 
 -- of the requests of the tables
-pub table-turn-determined : (request : Request) (T : Tables) (out : List ℕ) {U W : Tables} {a b : List ℕ} {r q : ℕ}
+pub table-turn-determined : (request : Request) (T : DeskTables) (out : List ℕ) {U W : DeskTables} {a b : List ℕ} {r q : ℕ}
     → left U (sheet a r) ≡ leftBy (tableTurn T (request .which) (saidIn [] (request .fields))) (sheet out 0)
     → left W (sheet b q) ≡ leftBy (tableTurn T (request .which) (saidIn [] (request .fields))) (sheet out 0) → (U ≡ W) × (a ≡ b) × (r ≡ q)
 table-turn-determined request T out = left-determined
 
 -- of the hub's
-pub act-turn-determined : (request : Request) (xs : List ℕ) (T : Tables) (out : List ℕ) {U W : Tables} {a b : List ℕ} {r q : ℕ}
+pub act-turn-determined : (request : Request) (xs : List ℕ) (T : DeskTables) (out : List ℕ) {U W : DeskTables} {a b : List ℕ} {r q : ℕ}
     → left U (sheet a r) ≡ leftBy (actTurn T (saidIn xs (request .fields))) (sheet out 0)
     → left W (sheet b q) ≡ leftBy (actTurn T (saidIn xs (request .fields))) (sheet out 0) → (U ≡ W) × (a ≡ b) × (r ≡ q)
 act-turn-determined request xs T out = left-determined

@@ -1,6 +1,6 @@
 -- Entries past the end of a table are none.
 use Prim.Native.Nat.{ℕ, zero, suc, _+_, _-_, _≤_, _<_}
-use mathlib.Core.Path.{_≡_, refl, sym, _∙_, ap}
+use mathlib.Core.Path.{_≡_, refl, sym}
 use mathlib.Core.Bool.{Bool, true, false}
 use mathlib.Core.List.{List}
 use native.Mathlib.Omega.{arith}
@@ -9,15 +9,10 @@ use lib.Dec.{ltb}
 use lib.ListN.{length, getD, set, length-set}
 use Rattle.octets.specs.Choice.{if_then_else_}
 use Rattle.octets.specs.Applied.{applied}
-use Rattle.octets.proofs.Applied.{set-beyond}
+use Rattle.octets.proofs.Applied.{applied-beyond}
 use Rattle.table_lines.specs.Inside.{spanEnd}
 
-applied-beyond : (f : ℕ → ℕ → ℕ) (k n : ℕ) (l : List ℕ) → length l ≤ k → applied f k n l ≡ l
-unfolding applied
-applied-beyond f k zero l h = refl
-applied-beyond f k (suc n) l h = ap (applied f (suc k) n) (set-beyond l k _ h) ∙ applied-beyond f (suc k) n l (omega arith)
-
--- so fewer are as many, where they reach the end
+-- fewer are as many, where they reach the end
 applied-cut : (f : ℕ → ℕ → ℕ) (k m n : ℕ) (l : List ℕ) → length l ≤ k + m → m ≤ n → applied f k m l ≡ applied f k n l
 unfolding applied
 applied-cut f k zero n l h e = sym (applied-beyond f k n l (omega arith))

@@ -5,11 +5,10 @@ ghost use Prim.Native.Nat.{ℕ, _+_, _-_, _%_, _≤_};
 ghost use Rattle.octets.specs.Answer.{refused};
 ghost use Rattle.octets.specs.Applied.{spread};
 ghost use Rattle.octets.specs.Told.{writtenTold};
-ghost use Rattle.hub.specs.Tables.{tables};
 ghost use Rattle.words.specs.Said.{said};
 ghost use Rattle.printing.specs.Sheet.{sheet, pour};
 ghost use Rattle.requests.specs.Along.{saidIn};
-ghost use Rattle.table_lines.specs.Tables.{left, leftBy, tableTurn, replyLine, actTurn};
+ghost use Rattle.table_lines.specs.Tables.{deskTables, left, leftBy, tableTurn, replyLine, actTurn};
 ghost use Rattle.table_lines.specs.Inside.{spanEnd};
 use octets::Written;
 use requests::HELPER;
@@ -64,10 +63,11 @@ pub fn table_turn(
     states: &mut [u8],
     owners: &mut [u8],
     helpers: &mut [u8],
+    totals: &mut [u8],
     out: &mut [u8],
 ) -> usize
-    ensures { λ r. ⌜ left (tables (now (states .exit)) (now (owners .exit)) (now (helpers .exit))) (sheet (now (out .exit)) r) ≡
-        leftBy (tableTurn (tables (now (states .entry)) (now (owners .entry)) (now (helpers .entry))) (request .which) (saidIn [] (request .fields))) (sheet (now (out .entry)) 0) ⌝ }
+    ensures { λ r. ⌜ left (deskTables (now (states .exit)) (now (owners .exit)) (now (helpers .exit)) (now (totals .exit))) (sheet (now (out .exit)) r) ≡
+        leftBy (tableTurn (deskTables (now (states .entry)) (now (owners .entry)) (now (helpers .entry)) (now (totals .entry))) (request .which) (saidIn [] (request .fields))) (sheet (now (out .entry)) 0) ⌝ }
 {
     let fields = request.fields;
     let first = fields[0];
@@ -80,7 +80,9 @@ pub fn table_turn(
         return spread_said(helpers, first.value, last.value, octet.value, out);
     }
     if request.which == SET {
-        return spread_said(states, first.value, last.value, octet.value, out);
+        let end = spread_said(states, first.value, last.value, octet.value, out);
+        totals::recount(states, totals, first.value as usize, last.value as usize);
+        return end;
     }
     let count = span(first.value, last.value);
     lines::put_shown(
@@ -109,10 +111,11 @@ pub fn act_turn(
     states: &mut [u8],
     owners: &[u8],
     helpers: &[u8],
+    totals: &mut [u8],
     out: &mut [u8],
 ) -> usize
-    ensures { λ r. ⌜ left (tables (now (states .exit)) (now (owners .entry)) (now (helpers .entry))) (sheet (now (out .exit)) r) ≡
-        leftBy (actTurn (tables (now (states .entry)) (now (owners .entry)) (now (helpers .entry))) (saidIn (now (octets .entry)) (request .fields))) (sheet (now (out .entry)) 0) ⌝ }
+    ensures { λ r. ⌜ left (deskTables (now (states .exit)) (now (owners .entry)) (now (helpers .entry)) (now (totals .exit))) (sheet (now (out .exit)) r) ≡
+        leftBy (actTurn (deskTables (now (states .entry)) (now (owners .entry)) (now (helpers .entry)) (now (totals .entry))) (saidIn (now (octets .entry)) (request .fields))) (sheet (now (out .entry)) 0) ⌝ }
 {
     let fields = request.fields;
     let sender = fields[0];
@@ -120,10 +123,11 @@ pub fn act_turn(
     let room = fields[2];
     let mut space = lines::blank_space();
     let buffer = lines::front(&mut space, room.value as usize);
-    let acted = hub::act(
+    let acted = board::act(
         states,
         owners,
         helpers,
+        totals,
         sender.value,
         lines::stretch(octets, message.from, message.count as usize),
         buffer,

@@ -26,8 +26,11 @@ same-length-4 c = search needs
 same-length-5 : tie.Need-same-length-5
 same-length-5 c = search needs
 
+same-length-6 : tie.Need-same-length-6
+same-length-6 c = search needs
+
 returns : tie.Need-returns
-returns c = left-same refl (c .before .before .put-octet .ensures) ∙ ap withLineEnd (c .before .before .before .before .before .before .before .before .before .before .before .before .before .before .answer-line .ensures)
+returns c = left-same refl (c .before .before .put-octet .ensures) ∙ ap withLineEnd (c .before .before .before .before .before .before .before .before .before .before .before .before .before .before .before .before .answer-line .ensures)
 
 pub answer-spec : {M : Type 1} → statement M
 answer-spec =
@@ -40,4 +43,5 @@ answer-spec =
     same-length-3
     same-length-4
     same-length-5
+    same-length-6
     returns)

@@ -1,7 +1,7 @@
 use mathlib.Core.Path.{_∙_, ap}
 use mathlib.Core.List.{[]}
 use denote.Ref.{now}
-use Rattle.hub.specs.Acts.{After}
+use Rattle.board.specs.Board.{BoardAfter}
 use Rattle.printing.specs.Sheet.{sheet, pour}
 use Rattle.requests.proofs.Said.{number-at}
 use Rattle.block_lines.specs.Blocks.{noticeLine, blockDone}
@@ -40,14 +40,17 @@ same-length c = search needs
 same-length-2 : tie.Need-same-length-2
 same-length-2 c = search needs
 
+same-length-3 : tie.Need-same-length-3
+same-length-3 c = search needs
+
 returns : tie.Need-returns
 unfolding blockDone
 returns c =
-    let a = c .before .before .before .before .before .before .before .before .before .before .before .before .before .before .before .before .before .before .before .before .before .before .before .args in
+    let a = c .before .before .before .before .before .before .before .before .before .before .before .before .before .before .before .before .before .before .before .before .before .before .before .before .before .before .before .args in
     let f = a .request .fields in
-    let t = rw (c .before .before .before .before .before .before .before .before .before .before .before .before .before .before .front .ensures, c .before .before .before .before .before .before .before .before .before .before .before .before .before .before .before .before .before .blank-space .ensures .0) at (c .before .before .before .before .before .before .before .before .before .before .desk-call .ensures) in
+    let t = rw (c .before .before .before .before .before .before .before .before .before .before .before .before .before .before .before .before .before .front .ensures, c .before .before .before .before .before .before .before .before .before .before .before .before .before .before .before .before .before .before .before .before .blank-space .ensures .0) at (c .before .before .before .before .before .before .before .before .before .before .before .before .desk-call .ensures) in
     rw (number-at [] f 0, number-at [] f 1)
-    (blocked-same (ap (λ (x : After). x .states) t) (c .before .before .before .say-noticed .ensures ∙ ap (λ (x : After). pour (sheet (now (a .out)) 0) (noticeLine (x .answer) (x .buffer))) t))
+    (blocked-same (ap (λ (x : BoardAfter). x .states) t) (ap (λ (x : BoardAfter). x .totals) t) (c .before .before .before .say-noticed .ensures ∙ ap (λ (x : BoardAfter). pour (sheet (now (a .out)) 0) (noticeLine (x .answer) (x .buffer))) t))
 
 pub block-turn-spec : {M : Type 1} → statement M
 block-turn-spec =
@@ -63,4 +66,5 @@ block-turn-spec =
     say-noticed-requires
     same-length
     same-length-2
+    same-length-3
     returns)

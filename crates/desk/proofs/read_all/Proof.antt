@@ -5,11 +5,11 @@ use Rattle.desk.proofs.read_all.Statement.{statement}
 use Rattle.desk.proofs.read_all.Tie as tie
 
 abbrev Inv-loop : tie.InvT-loop
-Inv-loop chunk₀ line₀ states₀ owners₀ helpers₀ scratch₀ out₀ written₀ held₀ turns₀ t10 chunk line states owners helpers scratch out written held turns =
-    (length chunk ≡ length chunk₀) × (length line ≡ length line₀) × (length states ≡ length states₀) × (length owners ≡ length owners₀) × (length helpers ≡ length helpers₀) × (length scratch ≡ length scratch₀) × (length out ≡ length out₀)
+Inv-loop chunk₀ line₀ states₀ owners₀ helpers₀ totals₀ scratch₀ out₀ written₀ held₀ turns₀ t10 chunk line states owners helpers totals scratch out written held turns =
+    (length chunk ≡ length chunk₀) × (length line ≡ length line₀) × (length states ≡ length states₀) × (length owners ≡ length owners₀) × (length helpers ≡ length helpers₀) × (length totals ≡ length totals₀) × (length scratch ≡ length scratch₀) × (length out ≡ length out₀)
 
 abbrev μ-loop : tie.MeasureT-loop
-μ-loop chunk₀ line₀ states₀ owners₀ helpers₀ scratch₀ out₀ written₀ held₀ turns₀ t10 chunk line states owners helpers scratch out written held turns =
+μ-loop chunk₀ line₀ states₀ owners₀ helpers₀ totals₀ scratch₀ out₀ written₀ held₀ turns₀ t10 chunk line states owners helpers totals scratch out written held turns =
     turns
 
 loop-holds : tie.Need-loop-holds Inv-loop μ-loop
@@ -45,6 +45,9 @@ same-length-6 c = search needs
 same-length-7 : tie.Need-same-length-7 Inv-loop μ-loop
 same-length-7 c = search needs
 
+same-length-8 : tie.Need-same-length-8 Inv-loop μ-loop
+same-length-8 c = search needs
+
 returns : tie.Need-returns Inv-loop μ-loop
 returns c = search needs
 
@@ -56,9 +59,6 @@ slice-aggregate-tell c = search needs
 
 tell-requires : tie.Need-tell-requires Inv-loop μ-loop
 tell-requires c κs = search needs
-
-same-length-8 : tie.Need-same-length-8 Inv-loop μ-loop
-same-length-8 c = search needs
 
 same-length-9 : tie.Need-same-length-9 Inv-loop μ-loop
 same-length-9 c = search needs
@@ -78,14 +78,14 @@ same-length-13 c = search needs
 same-length-14 : tie.Need-same-length-14 Inv-loop μ-loop
 same-length-14 c = search needs
 
-returns-2 : tie.Need-returns-2 Inv-loop μ-loop
-returns-2 c = search needs
-
 same-length-15 : tie.Need-same-length-15 Inv-loop μ-loop
 same-length-15 c = search needs
 
 same-length-16 : tie.Need-same-length-16 Inv-loop μ-loop
 same-length-16 c = search needs
+
+returns-2 : tie.Need-returns-2 Inv-loop μ-loop
+returns-2 c = search needs
 
 same-length-17 : tie.Need-same-length-17 Inv-loop μ-loop
 same-length-17 c = search needs
@@ -102,6 +102,15 @@ same-length-20 c = search needs
 same-length-21 : tie.Need-same-length-21 Inv-loop μ-loop
 same-length-21 c = search needs
 
+same-length-22 : tie.Need-same-length-22 Inv-loop μ-loop
+same-length-22 c = search needs
+
+same-length-23 : tie.Need-same-length-23 Inv-loop μ-loop
+same-length-23 c = search needs
+
+same-length-24 : tie.Need-same-length-24 Inv-loop μ-loop
+same-length-24 c = search needs
+
 returns-3 : tie.Need-returns-3 Inv-loop μ-loop
 returns-3 c = search needs
 
@@ -114,15 +123,6 @@ loop-less c = search needs
 loop-again : tie.Need-loop-again Inv-loop μ-loop
 loop-again c = search needs
 
-same-length-22 : tie.Need-same-length-22 Inv-loop μ-loop
-same-length-22 c = search needs
-
-same-length-23 : tie.Need-same-length-23 Inv-loop μ-loop
-same-length-23 c = search needs
-
-same-length-24 : tie.Need-same-length-24 Inv-loop μ-loop
-same-length-24 c = search needs
-
 same-length-25 : tie.Need-same-length-25 Inv-loop μ-loop
 same-length-25 c = search needs
 
@@ -134,6 +134,18 @@ same-length-27 c = search needs
 
 same-length-28 : tie.Need-same-length-28 Inv-loop μ-loop
 same-length-28 c = search needs
+
+same-length-29 : tie.Need-same-length-29 Inv-loop μ-loop
+same-length-29 c = search needs
+
+same-length-30 : tie.Need-same-length-30 Inv-loop μ-loop
+same-length-30 c = search needs
+
+same-length-31 : tie.Need-same-length-31 Inv-loop μ-loop
+same-length-31 c = search needs
+
+same-length-32 : tie.Need-same-length-32 Inv-loop μ-loop
+same-length-32 c = search needs
 
 returns-4 : tie.Need-returns-4 Inv-loop μ-loop
 returns-4 c = search needs
@@ -155,34 +167,38 @@ read-all-spec =
     same-length-5
     same-length-6
     same-length-7
+    same-length-8
     returns
     enum-told-3
     slice-aggregate-tell
     tell-requires
-    same-length-8
     same-length-9
     same-length-10
     same-length-11
     same-length-12
     same-length-13
     same-length-14
-    returns-2
     same-length-15
     same-length-16
+    returns-2
     same-length-17
     same-length-18
     same-length-19
     same-length-20
     same-length-21
+    same-length-22
+    same-length-23
+    same-length-24
     returns-3
     sub-turns
     loop-less
     loop-again
-    same-length-22
-    same-length-23
-    same-length-24
     same-length-25
     same-length-26
     same-length-27
     same-length-28
+    same-length-29
+    same-length-30
+    same-length-31
+    same-length-32
     returns-4)

@@ -23,5 +23,9 @@ returns-5 : tie.Need-returns-5
 unfolding mostOf
 returns-5 c = search tests
 
+returns-6 : tie.Need-returns-6
+unfolding mostOf
+returns-6 c = search tests
+
 pub most-spec : {M : Type 1} → statement M
-most-spec = tie.close (tie.spec returns returns-2 returns-3 returns-4 returns-5)
+most-spec = tie.close (tie.spec returns returns-2 returns-3 returns-4 returns-5 returns-6)

@@ -114,8 +114,24 @@ unfolding rowIn keyOf digitsOf lettersAll letterOf
 returns-27 c = rw (c .match .keys27)
 
 returns-28 : tie.Need-returns-28
+unfolding rowIn keyOf digitsOf lettersAll letterOf
+returns-28 c = rw (c .match .keys28)
+
+returns-29 : tie.Need-returns-29
+unfolding rowIn keyOf digitsOf lettersAll letterOf
+returns-29 c = rw (c .match .keys29)
+
+returns-30 : tie.Need-returns-30
+unfolding rowIn keyOf digitsOf lettersAll letterOf
+returns-30 c = rw (c .match .keys30)
+
+returns-31 : tie.Need-returns-31
+unfolding rowIn keyOf digitsOf lettersAll letterOf
+returns-31 c = rw (c .match .keys31)
+
+returns-32 : tie.Need-returns-32
 unfolding keyOf digitsOf lettersAll letterOf
-returns-28 c = row-none forms _ (c .match .rest)
+returns-32 c = row-none forms _ (c .match .rest)
 
 pub row-of-spec : {M : Type 1} → statement M
 row-of-spec =
@@ -148,4 +164,8 @@ row-of-spec =
     returns-25
     returns-26
     returns-27
-    returns-28)
+    returns-28
+    returns-29
+    returns-30
+    returns-31
+    returns-32)

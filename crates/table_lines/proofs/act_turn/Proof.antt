@@ -1,12 +1,11 @@
 use mathlib.Core.Path.{sym, _∙_, ap}
 use native.Mathlib.Omega.{arith}
 use denote.Ref.{now}
-use Rattle.hub.proofs.Places.{act-places-within}
-use Rattle.hub.specs.Acts.{After}
-use Rattle.hub.specs.Tables.{tables}
+use Rattle.board.proofs.Kept.{board-places-within}
+use Rattle.board.specs.Board.{BoardAfter}
 use Rattle.printing.specs.Sheet.{sheet, pour}
 use Rattle.requests.proofs.Said.{number-at, octets-at}
-use Rattle.table_lines.specs.Tables.{actLine, actTurn}
+use Rattle.table_lines.specs.Tables.{deskTables, actLine, actTurn}
 use Rattle.table_lines.proofs.Leaving.{left-same}
 use borrow.Author.Needs.{needs}
 use Rattle.table_lines.proofs.act_turn.Statement.{statement}
@@ -43,7 +42,7 @@ act-requires : tie.Need-act-requires
 act-requires c κs = search needs
 
 say-acted-requires : tie.Need-say-acted-requires
-say-acted-requires c κs = λ n at e. omega (arith, act-places-within _ _ _ _ n at (sym (ap (λ (x : After). x .answer) (c .before .before .before .before .before .before .act .ensures)) ∙ e))
+say-acted-requires c κs = λ n at e. omega (arith, board-places-within _ _ _ _ _ n at (sym (ap (λ (x : BoardAfter). x .answer) (c .before .before .before .before .before .before .before .before .act .ensures)) ∙ e))
 
 same-length : tie.Need-same-length
 same-length c = search needs
@@ -51,15 +50,18 @@ same-length c = search needs
 same-length-2 : tie.Need-same-length-2
 same-length-2 c = search needs
 
+same-length-3 : tie.Need-same-length-3
+same-length-3 c = search needs
+
 returns : tie.Need-returns
 unfolding actTurn
 returns c =
-    let a = c .before .before .before .before .before .before .before .before .before .before .before .before .before .before .before .before .before .before .before .before .before .before .before .before .before .before .before .before .args in
+    let a = c .before .before .before .before .before .before .before .before .before .before .before .before .before .before .before .before .before .before .before .before .before .before .before .before .before .before .before .before .before .before .before .before .args in
     let s = now (a .octets) in
     let f = a .request .fields in
-    let t = rw (c .before .before .before .before .before .before .before .before .before .before .before .before .before .before .before .front .ensures, c .before .before .before .before .before .before .before .before .before .before .before .before .before .before .before .before .before .before .blank-space .ensures .0, c .before .before .before .before .before .before .before .before .before .before .before .before .stretch .ensures) at (c .before .before .before .before .before .before .before .before .before .before .act .ensures) in
+    let t = rw (c .before .before .before .before .before .before .before .before .before .before .before .before .before .before .before .before .before .before .front .ensures, c .before .before .before .before .before .before .before .before .before .before .before .before .before .before .before .before .before .before .before .before .before .blank-space .ensures .0, c .before .before .before .before .before .before .before .before .before .before .before .before .before .before .stretch .ensures) at (c .before .before .before .before .before .before .before .before .before .before .before .before .act .ensures) in
     rw (number-at s f 0, octets-at s f 1, number-at s f 2)
-    (left-same (ap (λ (x : After). tables (x .states) (now (a .owners)) (now (a .helpers))) t) (c .before .before .before .say-acted .ensures ∙ ap (λ (x : After). pour (sheet (now (a .out)) 0) (actLine x)) t))
+    (left-same (ap (λ (x : BoardAfter). deskTables (x .states) (now (a .owners)) (now (a .helpers)) (x .totals)) t) (c .before .before .before .say-acted .ensures ∙ ap (λ (x : BoardAfter). pour (sheet (now (a .out)) 0) (actLine x)) t))
 
 pub act-turn-spec : {M : Type 1} → statement M
 act-turn-spec =
@@ -78,4 +80,5 @@ act-turn-spec =
     say-acted-requires
     same-length
     same-length-2
+    same-length-3
     returns)

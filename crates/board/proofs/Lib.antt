@@ -1,0 +1,4 @@
+pub mod Kept
+pub mod Judged
+pub mod Orders
+pub mod Refutations

@@ -1,0 +1,4 @@
+pub mod Blocks
+pub mod Question
+pub mod Looked
+pub mod Told
