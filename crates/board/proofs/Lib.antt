@@ -1,4 +1,6 @@
 pub mod Kept
 pub mod Judged
 pub mod Orders
+pub mod Pairs
+pub mod Touching
 pub mod Refutations

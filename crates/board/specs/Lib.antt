@@ -1,3 +1,4 @@
 pub mod Board
 pub mod Faults
 pub mod Arrival
+pub mod Names

@@ -38,19 +38,19 @@ use Rattle.hub.proofs.Desk.{desk-keeps}
 use Rattle.hub.proofs.Orders.{holds-is}
 
 -- BLO for circuit 0
-abbrev block : List ℕ
+abbrev pub block : List ℕ
 block = 0 ∷ 0 ∷ BLO ∷ []
 
-block-asks : askOf block ≡ accepted (oneAsk Block 0)
+pub block-asks : askOf block ≡ accepted (oneAsk Block 0)
 unfolding askOf askedIn actFor readOf partsOf containerOf variableSlot optionalSlot judged sharesOf shapeOf held
 block-asks = refl
 
 -- every row 0, but for the first
-abbrev rows : ℕ → List ℕ
+abbrev pub rows : ℕ → List ℕ
 rows first = first ∷ replicate 4095 0
 
 -- every circuit the sender's
-abbrev owned : ℕ → List ℕ
+abbrev pub owned : ℕ → List ℕ
 owned sender = sender ∷ replicate 4095 sender
 
 -- and no helpers
@@ -61,10 +61,10 @@ unhelped = owned 0
 abbrev lent : ℕ → ℕ → Tables
 lent first sender = tables (rows first) (owned sender) unhelped
 
-rows-sized : (first : ℕ) → length (rows first) ≡ 4096
+pub rows-sized : (first : ℕ) → length (rows first) ≡ 4096
 rows-sized first = ap suc (length-replicate {A = ℕ} 4095 0)
 
-owned-sized : (sender : ℕ) → length (owned sender) ≡ 4096
+pub owned-sized : (sender : ℕ) → length (owned sender) ≡ 4096
 owned-sized sender = ap suc (length-replicate {A = ℕ} 4095 sender)
 
 -- ---- rows marked before 13 is decided: the rows change, and then the buffer is found too short
@@ -217,7 +217,7 @@ takenFirst T sender m room a =
     else allowedOf T sender m room a
 
 -- IAM for circuit 0, with an empty called number and no optional part
-abbrev seize : List ℕ
+abbrev pub seize : List ℕ
 seize = 0 ∷ 0 ∷ IAM ∷ 0 ∷ 0 ∷ 0 ∷ 0 ∷ 0 ∷ 2 ∷ 0 ∷ 0 ∷ []
 
 seize-asks : askOf seize ≡ accepted (oneAsk Seize 0)
@@ -225,7 +225,7 @@ unfolding askOf askedIn actFor readOf partsOf containerOf variableSlot variableA
 seize-asks = refl
 
 -- both senders seize circuit 0, which is sender 2's
-abbrev seizedBy : ℕ → Call
+abbrev pub seizedBy : ℕ → Call
 seizedBy sender = record { asks = heard sender seize; buffer = [] }
 
 abbrev hurried : Calls
@@ -295,10 +295,10 @@ abbrev helpedBy1 : ℕ → Tables
 helpedBy1 first = tables (rows first) (owned 2) (owned 1)
 
 -- the helper blocks circuit 0, and the owner seizes it
-abbrev helperBlocks : Call
+abbrev pub helperBlocks : Call
 helperBlocks = record { asks = heard 1 block; buffer = 0 ∷ 0 ∷ 0 ∷ [] }
 
-abbrev shared : Calls
+abbrev pub shared : Calls
 shared = hub (owned 2) (owned 1)
 
 block-helped : grantOf (helpedBy1 0) 1 block 3 ≡ accepted (oneAsk Block 0)
@@ -319,22 +319,26 @@ seize-blocked =
     grant-sized (helpedBy1 2) 2 seize 0 (rows-sized 2) (owned-sized 2) (owned-sized 1)
     ∙ ap (λ z. z then allowedOf (helpedBy1 2) 2 seize 0) seize-asks
 
+-- the owner's IAM is answered otherwise after the helper's BLO on the same circuit than before it
+pub blocked-then-seized : shared .answer (seizedBy 2) (shared .after helperBlocks (rows 0)) ≡ shared .answer (seizedBy 2) (rows 0) → ⊥
+unfolding actOf applied changedRow blockedRow markOf replyOf
+blocked-then-seized h =
+    let s : shared .after helperBlocks (rows 0) ≡ rows 2 = ap (λ (g : Answer Ask). carriedOut (helpedBy1 0) block (0 ∷ 0 ∷ 0 ∷ []) g .states) block-helped in
+    let r : _≡_ {A = Answer ℕ} (refused 21 0) (accepted 0) =
+    ap (λ (g : Answer Ask). carriedOut (helpedBy1 2) seize [] g .answer) (sym seize-blocked)
+    ∙ ap (λ (x : Reply). x .answer) (sym (ap (λ (l : List ℕ). shared .answer (seizedBy 2) l) s) ∙ h)
+    ∙ ap (λ (g : Answer Ask). carriedOut (helpedBy1 0) seize [] g .answer) seize-granted in
+    refused-accepted r
+
 -- two merges of the same lists, in which the owner has different answers: 21 where the helper's block comes first, and none where it comes after
 pub helpers-merge-matters : (ls : ℕ → List Call) × Merged shared (helperBlocks ∷ seizedBy 2 ∷ []) ls × Merged shared (seizedBy 2 ∷ helperBlocks ∷ []) ls
     × (answersOf shared 2 (helperBlocks ∷ seizedBy 2 ∷ []) (rows 0) ≡ answersOf shared 2 (seizedBy 2 ∷ helperBlocks ∷ []) (rows 0) → ⊥)
-unfolding callsOf answersOf actOf applied changedRow blockedRow markOf replyOf
+unfolding callsOf answersOf
 helpers-merge-matters = (
   (λ q. callsOf shared q (helperBlocks ∷ seizedBy 2 ∷ [])),
   merged-so shared (helperBlocks ∷ seizedBy 2 ∷ []) _ (λ q. refl),
   merged-so shared (seizedBy 2 ∷ helperBlocks ∷ []) _ (λ q. other-way q (eqb 1 q) (eqb 2 q) refl refl),
-  λ e.
-      let s : shared .after helperBlocks (rows 0) ≡ rows 2 = ap (λ (g : Answer Ask). carriedOut (helpedBy1 0) block (0 ∷ 0 ∷ 0 ∷ []) g .states) block-helped in
-      let h : shared .answer (seizedBy 2) (shared .after helperBlocks (rows 0)) ≡ shared .answer (seizedBy 2) (rows 0) = first-of e in
-      let r : _≡_ {A = Answer ℕ} (refused 21 0) (accepted 0) =
-      ap (λ (g : Answer Ask). carriedOut (helpedBy1 2) seize [] g .answer) (sym seize-blocked)
-      ∙ ap (λ (x : Reply). x .answer) (sym (ap (λ (l : List ℕ). shared .answer (seizedBy 2) l) s) ∙ h)
-      ∙ ap (λ (g : Answer Ask). carriedOut (helpedBy1 0) seize [] g .answer) seize-granted in
-      refused-accepted r,
+  λ e. blocked-then-seized (first-of e),
 )
   where
     first-of : {a b : Reply} {l k : List Reply} → a ∷ l ≡ b ∷ k → a ≡ b
