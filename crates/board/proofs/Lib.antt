@@ -3,4 +3,5 @@ pub mod Judged
 pub mod Orders
 pub mod Pairs
 pub mod Touching
+pub mod Laws
 pub mod Refutations

@@ -1,7 +1,8 @@
 -- The row that a message leaves of a circuit, and why two calls that touch may not change places.
-use Prim.Native.Nat.{ℕ, _-_, _*_}
+use Prim.Native.Nat.{ℕ, _+_, _-_, _*_, _<_}
 use mathlib.Core.Path.{_≡_, refl, sym, _∙_, ap}
 use mathlib.Core.List.{List}
+use mathlib.Core.Logic.{_⊎_}
 use native.Mathlib.Omega.{arith}
 use Rattle.octets.specs.Octet.{octet}
 use Rattle.octets.specs.Answer.{accepted}
@@ -16,7 +17,7 @@ use Rattle.asks.proofs.Reading.{asked-is, ask-read, ask-last}
 use Rattle.hub.specs.Tables.{tables}
 use Rattle.hub.specs.Rows.{rowsAfter}
 use Rattle.hub.specs.Names.{Named}
-use Rattle.hub.proofs.Called.{row-inside, act-of, call-accepted}
+use Rattle.hub.proofs.Called.{row-outside, row-inside, act-of, call-accepted}
 use Rattle.board.specs.Board.{BoardAfter, boardOf}
 use Rattle.board.specs.Arrival.{Standings, leftIn}
 use Rattle.board.proofs.Kept.{board-totals, board-acts}
@@ -43,6 +44,15 @@ module _ (owners helpers : List ℕ) where
       let d = call-accepted (tables (s .rows) owners helpers) p m b n (sym (h .0) ∙ ok) in
       ap (λ (l : List ℕ). octet l c) (h .1 ∙ d .rows ∙ ap (λ (x : Ask). rowsAfter m x (s .rows)) (accepted-same (sym (d .allowed .asks) ∙ e)))
       ∙ row-inside m a (s .rows) c w (omega (arith, d .allowed .states-sized, ask-last m a e))
+
+  -- and of one that it does not name
+  pub row-apart : (s : Standings) (p : ℕ) (m b : List ℕ) (a : Ask) (n : ℕ) → askOf m ≡ accepted a → heardBy owners helpers s p m b .answer ≡ accepted n → (c : ℕ) → (c < a .circuit) ⊎ (a .circuit + a .range < c)
+      → octet (heardBy owners helpers s p m b .states) c ≡ octet (s .rows) c
+  row-apart s p m b a n e ok c w =
+      let t = board-totals (tables (s .rows) owners helpers) (s .totals) p m b n ok in
+      let h = board-acts (tables (s .rows) owners helpers) (s .totals) p m b (t .2) in
+      let d = call-accepted (tables (s .rows) owners helpers) p m b n (sym (h .0) ∙ ok) in
+      ap (λ (l : List ℕ). octet l c) (h .1 ∙ d .rows ∙ ap (λ (x : Ask). rowsAfter m x (s .rows)) (accepted-same (sym (d .allowed .asks) ∙ e))) ∙ row-outside m a (s .rows) c w
 
   -- GRS and IAM on any circuit of its group, the first or not: one order leaves it idle, the other busy. So naming the first circuit of a group alone would not do
   pub group-touches : (s : Standings) (p q : ℕ) (g m b d : List ℕ) (y a : Ask) (n₁ n₂ n₃ n₄ : ℕ)
