@@ -1,5 +1,5 @@
-/* bench FUNCTION MESSAGE WHO CALLS: so many calls of one function on one message, or about some circuits (all, most, one), by the
- * library (l), by the plain code (p) or by a function that only returns (n). bench/run counts the instructions. Before the calls,
+/* bench FUNCTION MESSAGE WHO CALLS: so many calls of one function on one message, about some circuits (all, most, one) or for some
+ * ticks (unticked, thirty, each), by the library (l), by the plain code (p) or by a function that only returns (n). bench/run counts the instructions. Before the calls,
  * both are seen to answer alike. */
 #include <string.h>
 
@@ -25,8 +25,12 @@ typedef uint32_t acting(uint8_t *, size_t, const uint8_t *, size_t, const uint8_
 typedef uint32_t blocking(uint8_t *, size_t, uint8_t *, size_t, uint32_t, uint32_t, uint8_t *, size_t);
 typedef uint64_t asking(const uint8_t *, size_t, const uint8_t *, size_t, uint32_t, uint32_t);
 typedef uint32_t rebuilding(const uint8_t *, size_t, uint8_t *, size_t);
+typedef uint32_t planning(const uint8_t *, size_t, const uint8_t *, size_t, const uint8_t *, size_t, const uint8_t *, size_t, uint32_t,
+                          uint32_t, uint8_t *, size_t);
+typedef uint32_t checking(const uint8_t *, size_t, const uint8_t *, size_t, const uint8_t *, size_t, const uint8_t *, size_t, uint32_t,
+                          uint32_t, const uint8_t *, size_t);
 
-static uint8_t m[268], states[4096], owners[4096], helpers[4096], totals[64];
+static uint8_t m[268], states[4096], owners[4096], helpers[4096], ticks[4096], totals[64];
 static size_t length;
 static uint32_t last_name, first, last;
 static volatile uint64_t sink;
@@ -62,9 +66,21 @@ static int circuits(const char *name)
     return last > 5 || strcmp(name, "one") == 0;
 }
 
+/* The circuits that are ticked for a night. */
+static int night(const char *name)
+{
+    if (strcmp(name, "thirty") == 0)
+        memset(ticks + 100, 1, 30);
+    else if (strcmp(name, "each") == 0)
+        memset(ticks, 1, sizeof ticks);
+    else
+        return strcmp(name, "unticked") == 0;
+    return 1;
+}
+
 static int message(const char *name)
 {
-    if (strcmp(name, "grs") == 0 || circuits(name)) {
+    if (strcmp(name, "grs") == 0 || circuits(name) || night(name)) {
         static const uint8_t grs[] = {0x05, 0x00, 0x17, 0x01, 0x01, 0x03};
         memcpy(m, grs, sizeof grs);
         length = sizeof grs;
@@ -121,8 +137,9 @@ static int message(const char *name)
     return 1;
 }
 
-/* The functions of SCCP, whose messages are not those of the others. */
+/* The functions of SCCP, whose messages are not those of the others; and the planner with its check. */
 static int sccp(const char *function, char who, unsigned calls);
+static int nights(const char *function, char who, unsigned calls);
 
 #define PICK(type, name) (who == 'l' ? llachurep_##name : who == 'p' ? plain_##name : (type *)bench_none)
 
@@ -137,6 +154,8 @@ int main(int count, char **words)
         calls = 10 * calls + (unsigned)(*c - '0');
     if (strcmp(function, "sccp_read") == 0 || strcmp(function, "sccp_write") == 0 || strcmp(function, "sccp_compact") == 0)
         return sccp(function, who, calls);
+    if (strcmp(function, "plan") == 0 || strcmp(function, "check_plan") == 0)
+        return nights(function, who, calls);
 
     uint16_t parts[10] = {0}, parts_of_plain[10] = {0};
     uint32_t values[10] = {0}, values_of_plain[10] = {0};
@@ -304,6 +323,29 @@ static int sccp(const char *function, char who, unsigned calls)
             sink += f(m, length, out, sizeof out);
     } else {
         return 2;
+    }
+    return 0;
+}
+
+static int nights(const char *function, char who, unsigned calls)
+{
+    static uint8_t plan[36864], plan_of_plain[36864];
+    memset(owners, 7, sizeof owners);
+    uint32_t size = llachurep_plan(states, 4096, owners, 4096, helpers, 4096, ticks, 4096, 7, 0, plan, sizeof plan);
+    if (size >> 16 ||
+        plain_plan(states, 4096, owners, 4096, helpers, 4096, ticks, 4096, 7, 0, plan_of_plain, sizeof plan) != size ||
+        memcmp(plan, plan_of_plain, sizeof plan) != 0 ||
+        llachurep_check_plan(states, 4096, owners, 4096, helpers, 4096, ticks, 4096, 7, 0, plan, size) != 1 ||
+        plain_check_plan(states, 4096, owners, 4096, helpers, 4096, ticks, 4096, 7, 0, plan, size) != 1)
+        return 1;
+    if (strcmp(function, "plan") == 0) {
+        planning *volatile f = PICK(planning, plan);
+        for (unsigned i = 0; i < calls; i++)
+            sink += f(states, 4096, owners, 4096, helpers, 4096, ticks, 4096, 7, 0, plan, sizeof plan);
+    } else {
+        checking *volatile f = PICK(checking, check_plan);
+        for (unsigned i = 0; i < calls; i++)
+            sink += f(states, 4096, owners, 4096, helpers, 4096, ticks, 4096, 7, 0, plan, size);
     }
     return 0;
 }

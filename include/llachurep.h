@@ -57,7 +57,7 @@ enum {
     LLACHUREP_RUN = 11,              /* optional run: a name 0, or a parameter that passes its end */
     LLACHUREP_OVER_255 = 12,         /* a length or pointer to write exceeds 255 */
     LLACHUREP_ROOM = 13,             /* lent output too short */
-    LLACHUREP_RULE = 14,             /* typed contents break their rule */
+    LLACHUREP_RULE = 14,             /* typed contents break their rule, or a plan's kind is not 0 or 1 */
     LLACHUREP_NONE = 15,             /* no such optional parameter */
     LLACHUREP_TABLE = 16,            /* a table of circuits not exactly 4096 octets, or not exactly 64 totals */
     LLACHUREP_NO_ACT = 17,           /* a type the hub does not act on */
@@ -66,6 +66,7 @@ enum {
     LLACHUREP_STATE = 20,            /* a named circuit's state octet is not legal */
     LLACHUREP_NOT_FREE = 21,         /* IAM on a circuit that is busy or blocked */
     LLACHUREP_ONLY_HELPED = 22,      /* the sender only helps a named circuit, and the message is none for helpers */
+    LLACHUREP_NO_PLAN = 25,          /* no plan exists that blocks the ticked circuits */
     LLACHUREP_VELOCITY = 26          /* a value that is no number, infinite or below zero; a bearing from 360 up */
 };
 
@@ -201,6 +202,26 @@ uint64_t llachurep_busy(const uint8_t *states, size_t states_length, const uint8
 /* Makes every total right, whatever it was: the count of its block's busy circuits. Accepted: v is 64.
  * Refused: 16 where there are not 4096 states and 64 totals. */
 uint32_t llachurep_rebuild(const uint8_t *states, size_t states_length, uint8_t *totals, size_t totals_length);
+
+/* Plans a maintenance night: messages of one sender that block the ticked circuits, for maintenance where kind is 0, for hardware
+ * where it is 1. `ticks` has an octet for each circuit, not 0 where it is ticked; states, owners and helpers are as for
+ * llachurep_act. Accepted: v is how many octets the plan has (0 where nothing is ticked, 9 for each ticked circuit at the most),
+ * at the front of plan; the rest of plan stays. A plan is messages one after the other, each after one octet that says its
+ * length: ticked circuits in a row, 32 at the most, are one CGB, a single one is BLO, or for hardware a CGB that also names,
+ * and does not mark, a neighbour. llachurep_check_plan answers 1 for it.
+ * Refused: 16 where a table has not 4096 octets, 14 for a kind other than 0 or 1, 20 where any state is not legal, 25 exactly
+ * where no plan exists, 13 exactly where plan has room for under 9 octets for each ticked circuit. */
+uint32_t llachurep_plan(const uint8_t *states, size_t states_length, const uint8_t *owners, size_t owners_length,
+                        const uint8_t *helpers, size_t helpers_length, const uint8_t *ticks, size_t ticks_length,
+                        uint32_t sender, uint32_t kind, uint8_t *plan, size_t plan_length);
+
+/* Whether a plan is good, whoever made it: 1 exactly where llachurep_act, lent these tables and 268 octets for its answer, would
+ * accept every message of that sender in turn, each is a CGB of that kind or, for maintenance, a BLO, and together they mark
+ * (or name by BLO) each ticked circuit once and no other. Else 0, also where a table has not 4096 octets, for another kind,
+ * and for a plan cut off. It refuses nothing. */
+uint32_t llachurep_check_plan(const uint8_t *states, size_t states_length, const uint8_t *owners, size_t owners_length,
+                              const uint8_t *helpers, size_t helpers_length, const uint8_t *ticks, size_t ticks_length,
+                              uint32_t sender, uint32_t kind, const uint8_t *plan, size_t plan_length);
 
 /* Codes a bearing in degrees and a speed in km/h (Q.1902.3, 6.19.1). Accepted: v is 2; codes[0] is the bearing's whole
  * degrees and codes[1] the nearest whole speed, a half going up, 65535 from 65534.5 on; further elements of codes stay.

@@ -23,16 +23,16 @@
 #define PLACE(answer) LLACHUREP_PLACE(answer)
 #endif
 
-enum { LINE = 8192, OCTETS = 1024, FIELDS = 8 };
+enum { LINE = 81920, OCTETS = 1024, PLAN_OCTETS = 36864, FIELDS = 8 };
 
 struct field {
     uint32_t number;
     double value;
     size_t count;
-    uint8_t octets[OCTETS];
+    uint8_t octets[PLAN_OCTETS];
 };
 
-static uint8_t states[4096], owners[4096], helpers[4096], totals[64], out[OCTETS];
+static uint8_t states[4096], owners[4096], helpers[4096], ticks[4096], totals[64], out[PLAN_OCTETS];
 static char line[LINE + 2];
 static struct field fields[FIELDS];
 
@@ -73,15 +73,15 @@ static int measured(const char *word, size_t length, double *to)
     return count > 0;
 }
 
-/* A word as the form says: o octets, t a type or name, n any number, r a room, c a circuit, b a block, s a small number, h a code,
- * v a measured value, m a mark. */
+/* A word as the form says: o octets, p a plan's octets, t a type or name, n any number, r a room, q a plan's room, c a circuit,
+ * b a block, s a small number, h a code, v a measured value, m a mark. */
 static int parse(const char *word, size_t length, char form, struct field *to)
 {
-    if (form == 'o' || form == 't') {
+    if (form == 'o' || form == 'p' || form == 't') {
         to->count = 0;
-        if (form == 'o' && length == 1 && word[0] == '-')
+        if (form != 't' && length == 1 && word[0] == '-')
             return 1;
-        if (length == 0 || length % 2 || length > 2 * OCTETS || (form == 't' && length != 2))
+        if (length == 0 || length % 2 || length > 2 * (form == 'p' ? PLAN_OCTETS : OCTETS) || (form == 't' && length != 2))
             return 0;
         for (size_t i = 0; i < length; i += 2) {
             if (digit(word[i]) < 0 || digit(word[i + 1]) < 0)
@@ -97,8 +97,8 @@ static int parse(const char *word, size_t length, char form, struct field *to)
         to->number = length == 4;
         return (length == 2 && memcmp(word, "up", 2) == 0) || (length == 4 && memcmp(word, "down", 4) == 0);
     }
-    uint64_t value = 0, most = form == 'n' ? 4294967295u : form == 'h' ? 65535 : form == 'r' ? 1024 : form == 'c' ? 4095 :
-                                form == 'b' ? 63 : 255;
+    uint64_t value = 0, most = form == 'n' ? 4294967295u : form == 'h' ? 65535 : form == 'r' ? OCTETS :
+                                form == 'q' ? PLAN_OCTETS : form == 'c' ? 4095 : form == 'b' ? 63 : 255;
     if (length == 0 || length > 10)
         return 0;
     for (size_t i = 0; i < length; i++) {
@@ -360,6 +360,15 @@ static void answer(size_t length)
         memset(states + f[0].number, (int)f[2].number, f[1].number - f[0].number + 1);
         made_right(f[0].number, f[1].number);
         printf("ok\n");
+    } else if (is(length, "tick", "ccs") && f[0].number <= f[1].number) {
+        memset(ticks + f[0].number, (int)f[2].number, f[1].number - f[0].number + 1);
+        printf("ok\n");
+    } else if (is(length, "plan", "nnq")) {
+        octets("octets", CALL(plan)(states, 4096, owners, 4096, helpers, 4096, ticks, 4096, f[0].number, f[1].number, out,
+                                    f[2].number), 0);
+    } else if (is(length, "check", "nnp")) {
+        printf(CALL(check_plan)(states, 4096, owners, 4096, helpers, 4096, ticks, 4096, f[0].number, f[1].number, f[2].octets,
+                                f[2].count) ? "yes\n" : "no\n");
     } else if (is(length, "act", "nor")) {
         octets("answer", CALL(act)(states, 4096, owners, 4096, helpers, 4096, totals, 64, f[0].number, f[1].octets,
                                    f[1].count, out, f[2].number), 1);

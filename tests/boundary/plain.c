@@ -921,3 +921,149 @@ uint32_t plain_rebuild(const uint8_t *states, size_t states_length, uint8_t *tot
     recount(states, totals, 0, CIRCUITS - 1);
     return TOTALS;
 }
+
+/* ------------------------------------------------------------------------------------------------ a maintenance night */
+
+/* Kinds of a plan, as CGB's type indicator has them; and how many circuits a CGB marks at the most. */
+enum { FOR_MAINTENANCE = 0, FOR_HARDWARE = 1, MARKS = 32 };
+
+/* Whether CGB of that kind (BLO too, for maintenance) may name the circuit: a helper has maintenance alone. */
+static int may_block(const uint8_t *owners, const uint8_t *helpers, uint32_t sender, uint32_t kind, unsigned c)
+{
+    return sender != 0 && (owners[c] == sender || (kind == FOR_MAINTENANCE && helpers[c] == sender));
+}
+
+/* Whether some message can mark the circuit. CGB names two circuits at the least, so for hardware a neighbour goes with it. */
+static int can_mark(const uint8_t *owners, const uint8_t *helpers, uint32_t sender, uint32_t kind, unsigned c)
+{
+    if (!may_block(owners, helpers, sender, kind, c))
+        return 0;
+    return kind == FOR_MAINTENANCE || (c + 1 < CIRCUITS && may_block(owners, helpers, sender, kind, c + 1)) ||
+           (c > 0 && may_block(owners, helpers, sender, kind, c - 1));
+}
+
+/* A CGB after its length octet, up to its status; gives where the status begins. */
+static uint8_t *put_cgb(uint8_t *to, unsigned c, uint32_t kind, unsigned range)
+{
+    unsigned width = range / 8 + 1;
+    to[0] = (uint8_t)(7 + width);
+    to[1] = (uint8_t)c;
+    to[2] = (uint8_t)(c >> 8);
+    to[3] = CGB;
+    to[4] = (uint8_t)kind;
+    to[5] = 1;
+    to[6] = (uint8_t)(1 + width);
+    to[7] = (uint8_t)range;
+    return to + 8;
+}
+
+/* 16, 14, 20, 25, 13. From circuit 0 up: ticked circuits in a row, 32 at the most, are one CGB; a single one is BLO, or for hardware
+ * a CGB that names a neighbour too, the next one before the one before it. */
+uint32_t plain_plan(const uint8_t *states, size_t states_length, const uint8_t *owners, size_t owners_length,
+                    const uint8_t *helpers, size_t helpers_length, const uint8_t *ticks, size_t ticks_length, uint32_t sender,
+                    uint32_t kind, uint8_t *plan, size_t room)
+{
+    if (states_length != CIRCUITS || owners_length != CIRCUITS || helpers_length != CIRCUITS || ticks_length != CIRCUITS)
+        return refusal(16);
+    if (kind > FOR_HARDWARE)
+        return refusal(14);
+    for (unsigned c = 0; c < CIRCUITS; c++)
+        if (!legal(states[c]))
+            return refusal(20);
+    size_t count = 0;
+    for (unsigned c = 0; c < CIRCUITS; c++)
+        if (ticks[c]) {
+            if (!can_mark(owners, helpers, sender, kind, c))
+                return refusal(25);
+            count++;
+        }
+    if (room < 9 * count)
+        return refusal(13);
+
+    uint8_t *to = plan;
+    for (unsigned c = 0; c < CIRCUITS;) {
+        if (!ticks[c]) {
+            c++;
+            continue;
+        }
+        unsigned n = 1;
+        while (n < MARKS && c + n < CIRCUITS && ticks[c + n])
+            n++;
+        if (n > 1) {
+            to = put_cgb(to, c, kind, n - 1);
+            for (unsigned left = n; left; left -= left < 8 ? left : 8)
+                *to++ = (uint8_t)(left < 8 ? (1u << left) - 1 : 255);
+        } else if (kind == FOR_MAINTENANCE) {
+            to[0] = 3;
+            to[1] = (uint8_t)c;
+            to[2] = (uint8_t)(c >> 8);
+            to[3] = BLO;
+            to += 4;
+        } else {
+            int next = c + 1 < CIRCUITS && may_block(owners, helpers, sender, kind, c + 1);
+            to = put_cgb(to, next ? c : c - 1, kind, 1);
+            *to++ = next ? 1 : 2;
+        }
+        c += n;
+    }
+    return (uint32_t)(to - plan);
+}
+
+/* One message of a plan: the hub would accept it, it is of that kind, and no circuit that it marks was marked before. The hub's answer
+ * has 39 octets at the most, so 268 are enough; blocking leaves a legal row legal, so each message can be held to the tables as given. */
+static int marks_new(const uint8_t *states, const uint8_t *owners, const uint8_t *helpers, uint32_t sender, uint32_t kind,
+                     const uint8_t *message, size_t length, uint8_t *marked)
+{
+    static const uint8_t alone[1] = {1};
+    struct message x;
+    if (parse(message, length, &x))
+        return 0;
+    unsigned range = 0;
+    const uint8_t *status = alone;
+    if (x.type == CGB) {
+        const uint8_t *contents = message + x.variable[0].start;
+        unsigned size = x.variable[0].length;
+        if ((message[3] & 3u) != kind || size < 1 || contents[0] < 1 || size != 1 + contents[0] / 8u + 1)
+            return 0;
+        range = contents[0];
+        status = contents + 1;
+        if (marks(status, range) > MARKS)
+            return 0;
+    } else if (x.type != BLO || kind != FOR_MAINTENANCE) {
+        return 0;
+    }
+    if (x.circuit + range >= CIRCUITS)
+        return 0;
+    for (unsigned n = 0; n <= range; n++) {
+        unsigned c = x.circuit + n;
+        if (!may_block(owners, helpers, sender, kind, c) || !legal(states[c]))
+            return 0;
+        if (status[n / 8] >> n % 8 & 1) {
+            if (marked[c])
+                return 0;
+            marked[c] = 1;
+        }
+    }
+    return 1;
+}
+
+/* 1 for a good plan, else 0. */
+uint32_t plain_check_plan(const uint8_t *states, size_t states_length, const uint8_t *owners, size_t owners_length,
+                          const uint8_t *helpers, size_t helpers_length, const uint8_t *ticks, size_t ticks_length,
+                          uint32_t sender, uint32_t kind, const uint8_t *plan, size_t length)
+{
+    if (states_length != CIRCUITS || owners_length != CIRCUITS || helpers_length != CIRCUITS || ticks_length != CIRCUITS ||
+        kind > FOR_HARDWARE)
+        return 0;
+    uint8_t marked[CIRCUITS] = {0};
+    for (size_t at = 0; at < length;) {
+        size_t size = plan[at++];
+        if (size > length - at || !marks_new(states, owners, helpers, sender, kind, plan + at, size, marked))
+            return 0;
+        at += size;
+    }
+    for (unsigned c = 0; c < CIRCUITS; c++)
+        if (marked[c] != (ticks[c] != 0))
+            return 0;
+    return 1;
+}

@@ -23,6 +23,12 @@ uint32_t plain_block(uint8_t *states, size_t states_length, uint8_t *totals, siz
 uint64_t plain_busy(const uint8_t *states, size_t states_length, const uint8_t *totals, size_t totals_length, uint32_t first,
                     uint32_t last);
 uint32_t plain_rebuild(const uint8_t *states, size_t states_length, uint8_t *totals, size_t totals_length);
+uint32_t plain_plan(const uint8_t *states, size_t states_length, const uint8_t *owners, size_t owners_length,
+                    const uint8_t *helpers, size_t helpers_length, const uint8_t *ticks, size_t ticks_length, uint32_t sender,
+                    uint32_t kind, uint8_t *plan, size_t room);
+uint32_t plain_check_plan(const uint8_t *states, size_t states_length, const uint8_t *owners, size_t owners_length,
+                          const uint8_t *helpers, size_t helpers_length, const uint8_t *ticks, size_t ticks_length,
+                          uint32_t sender, uint32_t kind, const uint8_t *plan, size_t length);
 uint32_t plain_bicc_read(const uint8_t *message, size_t length, uint32_t *parts, size_t count);
 uint32_t plain_bicc_write(uint32_t code, uint32_t type, const uint8_t *fixed, size_t fixed_length, const uint8_t *first,
                           size_t first_length, const uint8_t *second, size_t second_length, const uint8_t *optional,

@@ -10,14 +10,14 @@
 #include "llachurep.h"
 #include "plain.h"
 
-enum { MESSAGES = 200000, SHOWN = 10 };
+enum { MESSAGES = 200000, NIGHTS = 2000, SHOWN = 10 };
 
 enum { READ, WRITE, COMPACT, FIND, NUMBER_READ, NUMBER_WRITE, ACT, BLOCK, VELOCITY_CODE, VELOCITY_VERTICAL, VELOCITY_READ, BICC_READ,
-       BICC_WRITE, BICC_COMPACT, SCCP_READ, SCCP_WRITE, SCCP_COMPACT, ASKING, REBUILD, FUNCTIONS };
+       BICC_WRITE, BICC_COMPACT, SCCP_READ, SCCP_WRITE, SCCP_COMPACT, ASKING, REBUILD, PLANNING, CHECKING, FUNCTIONS };
 static const char *const names[FUNCTIONS] = {"read", "write", "compact", "find", "number_read", "number_write", "act", "block",
                                              "velocity", "vertical", "velocity_read", "bicc_read", "bicc_write",
                                              "bicc_compact", "sccp_read", "sccp_write", "sccp_compact",
-                                             "busy", "rebuild"};
+                                             "busy", "rebuild", "plan", "check_plan"};
 
 static unsigned long checks, failures;
 static unsigned long seen[FUNCTIONS][32];
@@ -60,7 +60,7 @@ static void noise(uint8_t *to, size_t count)
 
 /* ------------------------------------------------------------------------------------------------ what is lent */
 
-enum { GUARD = 24, ARENA = 8192 };
+enum { GUARD = 24, ARENA = 65536 };
 
 /* The same octets three times: for the library, for the plain code, and as they were. */
 static uint8_t ours[ARENA], theirs[ARENA], before[ARENA];
@@ -482,13 +482,13 @@ static uint32_t try_velocity_read(uint32_t bearing, uint32_t speed, size_t count
     return got;
 }
 
-/* The four tables, three times as above, with an octet to spare so that 4097 and 65 can be lent. */
+/* The five tables, three times as above, with an octet to spare so that 4097 and 65 can be lent. */
 struct tables {
     uint8_t guard0[GUARD], states[4097], guard1[GUARD], owners[4097], guard2[GUARD], helpers[4097], guard3[GUARD];
-    uint8_t totals[65], guard4[GUARD];
+    uint8_t totals[65], guard4[GUARD], ticks[4097], guard5[GUARD];
 };
 static struct tables ours_tables, theirs_tables, before_tables;
-static size_t states_length = 4096, owners_length = 4096, helpers_length = 4096, totals_length = 64;
+static size_t states_length = 4096, owners_length = 4096, helpers_length = 4096, totals_length = 64, ticks_length = 4096;
 
 /* A table as it is lent; one of no octets may be nowhere. */
 static uint8_t *table_at(uint8_t *rows, size_t length)
@@ -657,6 +657,138 @@ static uint32_t try_rebuild(void)
         good = (failed("rebuild changes more than the totals"), 0);
     if (!good)
         theirs_tables = before_tables = ours_tables;
+    return got;
+}
+
+/* The paper's words for a good plan: the hub accepts its messages in turn, each on the tables that those before it left, and each
+ * ticked circuit is marked, or named by BLO, once, and no other. */
+static int good_in_turn(uint32_t sender, uint32_t kind, const uint8_t *plan, size_t length)
+{
+    static struct tables t;
+    static unsigned times[4096];
+    uint8_t answer[268];
+    if (states_length != 4096 || owners_length != 4096 || helpers_length != 4096 || ticks_length != 4096 || kind > 1)
+        return 0;
+    t = before_tables;
+    memset(times, 0, sizeof times);
+    for (size_t i = 0; i < length;) {
+        size_t size = plan[i++];
+        const uint8_t *m = plan + i;
+        if (size > length - i)
+            return 0;
+        i += size;
+        if (plain_act(t.states, 4096, t.owners, 4096, t.helpers, 4096, t.totals, 64, sender, m, size, answer, 268) >> 16)
+            return 0;
+        unsigned c = m[0] + 256u * (m[1] & 15u);
+        if (m[2] == 0x18 && m[3] % 4u == kind) {
+            for (unsigned n = 0; n <= reach(m); n++)
+                times[c + n] += m[6 + m[4] + n / 8] >> n % 8 & 1u;
+        } else if (m[2] == 0x13 && kind == 0) {
+            times[c]++;
+        } else {
+            return 0;
+        }
+    }
+    for (unsigned c = 0; c < 4096; c++)
+        if (times[c] != (before_tables.ticks[c] != 0))
+            return 0;
+    return 1;
+}
+
+/* Whether the hub accepts that message of the sender, on the tables as they are. */
+static int taken(uint32_t sender, const uint8_t *message, size_t length)
+{
+    static uint8_t states[4096], totals[64];
+    uint8_t answer[268];
+    memcpy(states, before_tables.states, 4096);
+    return plain_act(states, 4096, before_tables.owners, 4096, before_tables.helpers, 4096, totals, 64, sender, message, length,
+                     answer, 268) >> 16 == 0;
+}
+
+/* Whether no message can mark the circuit: neither BLO nor, with a neighbour, the shortest CGB. */
+static int unmarkable(uint32_t sender, uint32_t kind, unsigned c)
+{
+    uint8_t blo[] = {(uint8_t)c, (uint8_t)(c >> 8), 0x13};
+    uint8_t cgb[] = {(uint8_t)c, (uint8_t)(c >> 8), 0x18, (uint8_t)kind, 1, 2, 1, 1};
+    if ((kind == 0 && taken(sender, blo, sizeof blo)) || taken(sender, cgb, sizeof cgb))
+        return 0;
+    if (c == 0)
+        return 1;
+    cgb[0] = (uint8_t)(c - 1);
+    cgb[1] = (uint8_t)((c - 1) >> 8);
+    cgb[7] = 2;
+    return !taken(sender, cgb, sizeof cgb);
+}
+
+/* So some ticked circuit is, and there is no plan. Looked at where the caller wants it: it takes long. */
+static int no_plan(uint32_t sender, uint32_t kind)
+{
+    for (unsigned c = 0; c < 4096; c++)
+        if (before_tables.ticks[c] && unmarkable(sender, kind, c))
+            return 1;
+    return 0;
+}
+
+/* The last plan that was given. */
+static uint8_t planned[36864 + 600];
+static size_t planned_length;
+
+/* No table is changed by the planner or by the check. */
+static int tables_kept(void)
+{
+    return memcmp(&ours_tables, &theirs_tables, sizeof ours_tables) == 0 && memcmp(&ours_tables, &before_tables, sizeof ours_tables) == 0;
+}
+
+static uint32_t try_plan(uint32_t sender, uint32_t kind, size_t room)
+{
+    begin();
+    size_t p = lend(0, room);
+    ready();
+    uint32_t got = llachurep_plan(table_at(ours_tables.states, states_length), states_length,
+                                  table_at(ours_tables.owners, owners_length), owners_length,
+                                  table_at(ours_tables.helpers, helpers_length), helpers_length,
+                                  table_at(ours_tables.ticks, ticks_length), ticks_length, sender, kind, at(ours, p, room), room);
+    uint32_t wanted = plain_plan(table_at(theirs_tables.states, states_length), states_length,
+                                 table_at(theirs_tables.owners, owners_length), owners_length,
+                                 table_at(theirs_tables.helpers, helpers_length), helpers_length,
+                                 table_at(theirs_tables.ticks, ticks_length), ticks_length, sender, kind, at(theirs, p, room), room);
+    int good = settle(PLANNING, got, wanted, got >> 16, p, got & 65535);
+    if (good && !tables_kept())
+        good = (failed("plan changes a table"), 0);
+    if (got >> 16 == 0) {
+        planned_length = got;
+        memcpy(planned, ours + p, got);
+        if (good && !good_in_turn(sender, kind, planned, planned_length))
+            good = (failed("plan gives one that the hub does not take in turn"), 0);
+    }
+    if (!good && failures <= SHOWN)
+        printf("  sender %u, kind %u, room %u\n", sender, kind, (unsigned)room);
+    return got;
+}
+
+static uint32_t try_check(uint32_t sender, uint32_t kind, const uint8_t *plan, size_t length)
+{
+    begin();
+    size_t p = lend(plan, length);
+    ready();
+    uint32_t got = llachurep_check_plan(table_at(ours_tables.states, states_length), states_length,
+                                        table_at(ours_tables.owners, owners_length), owners_length,
+                                        table_at(ours_tables.helpers, helpers_length), helpers_length,
+                                        table_at(ours_tables.ticks, ticks_length), ticks_length, sender, kind, in(p, length), length);
+    uint32_t wanted = plain_check_plan(table_at(theirs_tables.states, states_length), states_length,
+                                       table_at(theirs_tables.owners, owners_length), owners_length,
+                                       table_at(theirs_tables.helpers, helpers_length), helpers_length,
+                                       table_at(theirs_tables.ticks, ticks_length), ticks_length, sender, kind,
+                                       at(theirs, p, length), length);
+    int good = settle(CHECKING, got, wanted, got, 0, 0);
+    if (good && !tables_kept())
+        good = (failed("check_plan changes a table"), 0);
+    if (good && got != (uint32_t)good_in_turn(sender, kind, plan, length))
+        good = (failed("check_plan answers otherwise than the hub in turn"), 0);
+    if (!good && failures <= SHOWN) {
+        printf("  sender %u, kind %u\n", sender, kind);
+        show("plan", plan, length < 64 ? length : 64);
+    }
     return got;
 }
 
@@ -1408,6 +1540,239 @@ static void totals_cases(void)
         }
 }
 
+/* Circuits a to b are ticked, and no other. */
+static void ticked(unsigned a, unsigned b)
+{
+    memset(before_tables.ticks, 0, 4097);
+    memset(before_tables.ticks + a, 1, b - a + 1);
+    ready_tables();
+}
+
+/* The plan for the ticks as they are: given in 9 octets for each, and not in one less; the check takes it, cut short nowhere. */
+static void plans(const char *what, uint32_t kind, const char *wanted)
+{
+    static uint8_t other[64];
+    size_t size = hex(wanted, other), count = 0;
+    for (unsigned c = 0; c < 4096; c++)
+        count += before_tables.ticks[c] != 0;
+    if (count)
+        want("plan, room one short", what, try_plan(7, kind, 9 * count - 1), REFUSED(13));
+    want("plan", what, try_plan(7, kind, 9 * count + 5), size);
+    want("plan, room exact", what, try_plan(7, kind, 9 * count), size);
+    checks++;
+    if (memcmp(planned, other, size) != 0 && failed("plan"))
+        show(what, planned, planned_length);
+    want("check_plan", what, try_check(7, kind, other, size), 1);
+    for (size_t k = 0; k < size; k++)
+        want("check_plan, cut off", what, try_check(7, kind, other, k), 0);
+    want("check_plan, other sender", what, try_check(8, kind, other, size), size == 0);
+    want("check_plan, other kind", what, try_check(7, 1 - kind, other, size), size == 0);
+    want("check_plan, kind 2", what, try_check(7, 2, other, size), 0);
+}
+
+/* A plan that is not ours, for the ticks as they are. */
+static void checks_plan(const char *what, uint32_t kind, const char *plan, uint32_t wanted)
+{
+    static uint8_t other[600];
+    want("check_plan", what, try_check(7, kind, other, hex(plan, other)), wanted);
+}
+
+static void plan_cases(void)
+{
+    static const size_t lengths[] = {0, 1, 4095, 4097};
+    static const uint32_t kinds[] = {2, 3, 4, 256, 65536, 0x80000000, 0xffffffff};
+    /* Nothing is ticked: the empty plan, for any sender, where every row is legal. */
+    table(7, 0, 4096, 7, 0);
+    ticked(4096, 4096);
+    plans("nothing", 0, "");
+    plans("nothing", 1, "");
+    for (uint32_t sender = 0; sender < 1024; sender += 255) {
+        want("plan", "nothing, any sender", try_plan(sender, 0, 0), 0);
+        want("check_plan", "nothing, any sender", try_check(sender, 1, octets, 0), 1);
+    }
+    /* Rows of ticks, at the edges of the table and of 32. */
+    ticked(291, 291);
+    plans("one", 0, "03 23 01 13");
+    plans("one", 1, "08 23 01 18 01 01 02 01 01");
+    ticked(0, 0);
+    plans("the first", 0, "03 00 00 13");
+    plans("the first", 1, "08 00 00 18 01 01 02 01 01");
+    ticked(4095, 4095);
+    plans("the last", 0, "03 FF 0F 13");
+    plans("the last", 1, "08 FE 0F 18 01 01 02 01 02");
+    ticked(5, 6);
+    plans("two", 0, "08 05 00 18 00 01 02 01 03");
+    plans("two", 1, "08 05 00 18 01 01 02 01 03");
+    ticked(32, 62);
+    plans("thirty-one", 0, "0B 20 00 18 00 01 05 1E FF FF FF 7F");
+    ticked(0, 31);
+    plans("thirty-two", 1, "0B 00 00 18 01 01 05 1F FF FF FF FF");
+    ticked(0, 32);
+    plans("thirty-three", 0, "0B 00 00 18 00 01 05 1F FF FF FF FF 03 20 00 13");
+    plans("thirty-three", 1, "0B 00 00 18 01 01 05 1F FF FF FF FF 08 20 00 18 01 01 02 01 01");
+    ticked(4063, 4095);
+    plans("the last thirty-three", 1, "0B DF 0F 18 01 01 05 1F FF FF FF FF 08 FE 0F 18 01 01 02 01 02");
+    ticked(4080, 4095);
+    plans("the last sixteen", 0, "09 F0 0F 18 00 01 03 0F FF FF");
+    ticked(10, 10);
+    before_tables.ticks[12] = 255;
+    before_tables.ticks[13] = 128;
+    ready_tables();
+    plans("one and two", 0, "03 0A 00 13 08 0C 00 18 00 01 02 01 03");
+    plans("one and two", 1, "08 0A 00 18 01 01 02 01 01 08 0C 00 18 01 01 02 01 03");
+    /* All: 128 CGB of 12 octets; and each other one: 2048 messages. */
+    ticked(0, 4095);
+    for (uint32_t kind = 0; kind < 2; kind++) {
+        want("plan", "all", try_plan(7, kind, 36863), REFUSED(13));
+        want("plan", "all", try_plan(7, kind, 36864), 128 * 12);
+        want("check_plan", "all", try_check(7, kind, planned, planned_length), 1);
+        want("check_plan", "all but one octet", try_check(7, kind, planned, planned_length - 1), 0);
+        want("check_plan", "all but one message", try_check(7, kind, planned, planned_length - 12), 0);
+        want("check_plan", "all but the first message", try_check(7, kind, planned + 12, planned_length - 12), 0);
+    }
+    for (unsigned c = 0; c < 4096; c++)
+        before_tables.ticks[c] = (uint8_t)(c % 2 * c);
+    before_tables.ticks[256] = 0;
+    for (unsigned c = 1; c < 4096; c += 2)
+        before_tables.ticks[c] |= 1;
+    ready_tables();
+    want("plan", "each other", try_plan(7, 0, 9 * 2048), 4 * 2048);
+    want("check_plan", "each other", try_check(7, 0, planned, planned_length), 1);
+    want("plan", "each other", try_plan(7, 1, 9 * 2048), 9 * 2048);
+    want("check_plan", "each other", try_check(7, 1, planned, planned_length), 1);
+    want("plan", "each other", try_plan(7, 1, 9 * 2048 - 1), REFUSED(13));
+
+    /* 25, and who may be planned. */
+    for (unsigned c = 0; c < 4096; c += c == 0 ? 5 : c == 5 ? 4090 : 4096) {
+        table(9, 0, c, 7, 0); /* one circuit of its own: no neighbour for hardware */
+        ticked(c, c);
+        want("plan", "own, alone", try_plan(7, 0, 9), 4);
+        want("plan", "own, alone", try_plan(7, 1, 9), REFUSED(25));
+        want("plan", "25 before 13", try_plan(7, 1, 0), REFUSED(25));
+        want("plan", "another's", try_plan(8, 0, 9), REFUSED(25));
+        want("plan", "number above 255", try_plan(7 + 256, 0, 9), REFUSED(25));
+        want("plan", "sender 0", try_plan(0, 0, 9), REFUSED(25));
+        memset(before_tables.helpers, 7, 4097);
+        ready_tables();
+        want("plan", "a neighbour that is only helped", try_plan(7, 1, 9), REFUSED(25));
+        table(7, 0, c, 9, 0);
+        ticked(c, c);
+        want("plan", "not its own", try_plan(7, 0, 9), REFUSED(25));
+        before_tables.helpers[c] = 7;
+        ready_tables();
+        want("plan", "helped", try_plan(7, 0, 9), 4);
+        want("plan", "helped", try_plan(7, 1, 9), REFUSED(25));
+    }
+    table(0, 0, 4096, 0, 0);
+    ticked(5, 5);
+    want("plan", "nobody's", try_plan(0, 0, 9), REFUSED(25));
+    want("plan", "nobody's", try_plan(256, 0, 9), REFUSED(25));
+    before_tables.owners[4] = before_tables.owners[5] = 7; /* the next is not owned: the one before */
+    ready_tables();
+    plans("the one before", 1, "08 04 00 18 01 01 02 01 02");
+    before_tables.owners[6] = 7;
+    ready_tables();
+    plans("the next", 1, "08 05 00 18 01 01 02 01 01");
+    helped(0, 4096, 9, 5, 0);
+    ticked(5, 8);
+    want("plan", "helped in a row", try_plan(5, 0, 36), 9);
+    want("check_plan", "helped in a row", try_check(5, 0, planned, planned_length), 1);
+    want("check_plan", "helped in a row, by its owner", try_check(9, 0, planned, planned_length), 1);
+    want("check_plan", "helped in a row, another", try_check(6, 0, planned, planned_length), 0);
+    want("plan", "helped in a row, for hardware", try_plan(5, 1, 36), REFUSED(25));
+    want("plan", "helped in a row, by its owner", try_plan(9, 1, 36), 9);
+    want("check_plan", "for hardware by its helper", try_check(5, 1, planned, planned_length), 0);
+
+    /* Each row, ticked or not: 20 where it is not legal; and it is no matter which block stands. */
+    for (unsigned state = 0; state < 256; state++) {
+        table(7, 0, 77, 7, state);
+        ticked(5, 6);
+        int bad = (state & 7) == 5 || (state & 7) == 7 || state > 15;
+        want("plan", "each state", try_plan(7, 0, 18), bad ? REFUSED(20) : 9);
+        want("plan", "20 before 25", try_plan(8, 0, 18), bad ? REFUSED(20) : REFUSED(25));
+        want("plan", "20 before 13", try_plan(7, 0, 0), bad ? REFUSED(20) : REFUSED(13));
+        checks_plan("each state of another row", 0, "08 05 00 18 00 01 02 01 03", 1);
+        ticked(77, 77);
+        want("check_plan", "each state", try_check(7, 0, octets, hex("03 4D 00 13", octets)), !bad);
+        want("check_plan", "each state", try_check(7, 1, octets, hex("08 4D 00 18 01 01 02 01 01", octets)), !bad);
+        want("check_plan", "each state of the neighbour", (ticked(78, 78), try_check(7, 1, octets, hex("08 4D 00 18 01 01 02 01 02", octets))), !bad);
+    }
+    /* 16 and 14 first. */
+    table(9, 5, 4096, 9, 5);
+    ticked(0, 4095);
+    for (int t = 0; t < 4; t++) {
+        size_t *which = t == 0 ? &states_length : t == 1 ? &owners_length : t == 2 ? &helpers_length : &ticks_length;
+        for (int i = 0; i < 4; i++) {
+            *which = lengths[i];
+            want("plan", "16 before all", try_plan(7, 2, 0), REFUSED(16));
+            want("plan", "16", try_plan(7, 0, 36864), REFUSED(16));
+            want("check_plan", "wrong length", try_check(7, 0, octets, 0), 0);
+        }
+        *which = 4096;
+    }
+    for (int i = 0; i < 7; i++) {
+        want("plan", "14 before 20, 25 and 13", try_plan(7, kinds[i], 0), REFUSED(14));
+        want("check_plan", "wrong kind", try_check(7, kinds[i], octets, 0), 0);
+    }
+    table(7, 0, 4096, 7, 0);
+    ticked(4096, 4096);
+    for (int t = 0; t < 4; t++) {
+        size_t *which = t == 0 ? &states_length : t == 1 ? &owners_length : t == 2 ? &helpers_length : &ticks_length;
+        for (int i = 0; i < 4; i++) {
+            *which = lengths[i];
+            want("check_plan", "wrong length, nothing ticked", try_check(7, 0, octets, 0), 0);
+        }
+        *which = 4096;
+    }
+    for (int i = 0; i < 7; i++)
+        want("check_plan", "wrong kind, nothing ticked", try_check(7, kinds[i], octets, 0), 0);
+
+    /* Plans that others made. */
+    checks_plan("a length octet 0", 0, "00", 0);
+    checks_plan("no mark", 0, "08 05 00 18 00 01 02 01 00", 1);
+    checks_plan("no mark, spare bits alone", 1, "08 05 00 18 FD 01 02 01 FC", 1);
+    ticked(5, 6);
+    checks_plan("two BLO", 0, "03 05 00 13 03 06 00 13", 1);
+    checks_plan("two BLO, the later first", 0, "03 06 00 13 03 05 00 13", 1);
+    checks_plan("two BLO, spare bits of the circuit", 0, "03 05 F0 13 03 06 50 13", 1);
+    checks_plan("two BLO for hardware", 1, "03 05 00 13 03 06 00 13", 0);
+    checks_plan("twice", 0, "03 05 00 13 03 06 00 13 03 05 00 13", 0);
+    checks_plan("twice by CGB", 0, "08 05 00 18 00 01 02 01 03 03 05 00 13", 0);
+    checks_plan("one left out", 0, "03 05 00 13", 0);
+    checks_plan("one too many", 0, "03 05 00 13 03 06 00 13 03 07 00 13", 0);
+    checks_plan("one too many marked", 0, "08 05 00 18 00 01 02 02 07", 0);
+    checks_plan("a wider group", 0, "08 02 00 18 00 01 02 07 18", 1);
+    checks_plan("a group that names one marked", 0, "08 04 00 18 00 01 02 01 02 08 06 00 18 00 01 02 01 01", 1);
+    checks_plan("spare bits", 1, "08 05 00 18 01 01 02 01 FF", 1);
+    checks_plan("spare bits of the indicator", 1, "08 05 00 18 F1 01 02 01 03", 1);
+    checks_plan("indicator 2", 1, "08 05 00 18 02 01 02 01 03", 0);
+    checks_plan("range 0", 0, "08 05 00 18 00 01 02 00 01 03 06 00 13", 0);
+    checks_plan("range and status at odds", 0, "09 05 00 18 00 01 03 01 03 00", 0);
+    checks_plan("a gap after the pointer", 0, "09 05 00 18 00 02 AA 02 01 03", 1);
+    checks_plan("spare octets at the end", 0, "09 05 00 18 00 01 02 01 03 77", 1);
+    checks_plan("an empty message between", 0, "03 05 00 13 00 03 06 00 13", 0);
+    checks_plan("UBL between", 0, "03 05 00 13 03 07 00 14 03 06 00 13", 0);
+    checks_plan("CGU between", 0, "08 05 00 18 00 01 02 01 03 08 07 00 19 00 01 02 01 03", 0);
+    checks_plan("RSC between", 0, "03 05 00 13 03 07 00 12 03 06 00 13", 0);
+    checks_plan("a type that is not known", 0, "03 05 00 13 03 06 00 13 03 07 00 FF", 0);
+    checks_plan("a length octet at the end", 0, "03 05 00 13 03 06 00 13 03", 0);
+    checks_plan("256 circuits named", 0, "27 00 00 18 00 01 21 FF 60 00*31", 1);
+    ticked(0, 32);
+    checks_plan("thirty-three marks", 0, "0C 00 00 18 00 01 06 20 FF FF FF FF 01", 0);
+    checks_plan("thirty-two marks and BLO", 0, "0C 00 00 18 00 01 06 20 FF FF FF FF 00 03 20 00 13", 1);
+    ticked(4095, 4095);
+    checks_plan("18", 1, "08 FF 0F 18 01 01 02 01 01", 0);
+    table(7, 0, 6, 9, 0);
+    ticked(5, 5);
+    checks_plan("a neighbour of another, not marked", 1, "08 05 00 18 01 01 02 01 01", 0);
+    checks_plan("a neighbour of another, not marked", 0, "08 05 00 18 00 01 02 01 01", 0);
+    checks_plan("the other neighbour", 1, "08 04 00 18 01 01 02 01 02", 1);
+    before_tables.helpers[6] = 7;
+    ready_tables();
+    checks_plan("a neighbour that is helped", 1, "08 05 00 18 01 01 02 01 01", 0);
+    checks_plan("a neighbour that is helped", 0, "08 05 00 18 00 01 02 01 01", 1);
+}
+
 /* ------------------------------------------------------------------------------------------------ generated messages */
 
 static const uint8_t types[24] = {0x01, 0x02, 0x05, 0x06, 0x07, 0x09, 0x0C, 0x0D, 0x0E, 0x10, 0x12, 0x13,
@@ -1753,6 +2118,138 @@ static void generated(void)
             try_number_write(one_in(10) ? chance() : below(130), one_in(20) ? chance() : below(8),
                              one_in(20) ? chance() : below(2), signals, count, near(2 + (count + 1) / 2));
         }
+    }
+}
+
+/* ------------------------------------------------------------------------------------------------ generated nights */
+
+/* Tables for a night of sender 7; ticks here and there, most of them on circuits that it may block. */
+static void some_night(uint32_t kind)
+{
+    static const uint8_t who[6] = {7, 7, 7, 7, 9, 0};
+    unsigned strange = one_in(4), density = below(4);
+    for (unsigned c = 0; c < 4097;) {
+        unsigned owner = who[below(6)], helper = who[below(6)];
+        for (unsigned n = one_in(2) ? between(1, 6) : between(20, 300); n > 0 && c < 4097; n--, c++) {
+            before_tables.owners[c] = (uint8_t)owner;
+            before_tables.helpers[c] = (uint8_t)helper;
+            before_tables.states[c] = legal_states[below(12)];
+        }
+    }
+    memset(before_tables.ticks, 0, 4097);
+    for (unsigned c = 0; c < 4096 && density;) {
+        unsigned n = one_in(2) ? 1 : one_in(3) ? between(30, 70) : between(1, 12);
+        for (; n > 0 && c < 4096; n--, c++) {
+            const uint8_t *o = before_tables.owners;
+            int may = kind == 0 ? o[c] == 7 || before_tables.helpers[c] == 7 :
+                                  o[c] == 7 && ((c < 4095 && o[c + 1] == 7) || (c > 0 && o[c - 1] == 7));
+            if (may || (strange && one_in(300)))
+                before_tables.ticks[c] = (uint8_t)(1 + below(255));
+        }
+        c += density == 3 ? between(1, 3) : density == 2 ? between(1, 40) : between(50, 900);
+    }
+    if (one_in(12))
+        before_tables.states[below(4096)] = (uint8_t)chance();
+    ready_tables();
+}
+
+/* Where the message of a plan stands that has the octet k in it. */
+static size_t message_at(const uint8_t *plan, size_t k)
+{
+    size_t i = 0;
+    while (i + plan[i] < k)
+        i += plan[i] + 1u;
+    return i;
+}
+
+/* A plan, changed: most are no longer good. */
+static size_t spoil_plan(uint8_t *plan, size_t length)
+{
+    static uint8_t copy[300];
+    uint32_t way = below(10);
+    size_t i = length ? message_at(plan, below((uint32_t)length)) : 0, size = length ? plan[i] + 1u : 0;
+    if (size > length - i)
+        size = length - i;
+    if (way == 0 || length == 0) { /* a message more: BLO, or a CGB that may mark nothing */
+        unsigned c = below(4096);
+        uint8_t more[] = {3, (uint8_t)c, (uint8_t)(c >> 8), 0x13, 1, 2, 1, (uint8_t)below(4), 0};
+        if (one_in(2)) {
+            uint8_t cgb[] = {8, (uint8_t)c, (uint8_t)(c >> 8), 0x18, (uint8_t)below(3), 1, 2, 1, (uint8_t)below(4)};
+            memcpy(more, cgb, sizeof cgb);
+        }
+        memcpy(plan + length, more, more[0] + 1u);
+        return length + more[0] + 1u;
+    }
+    switch (way) {
+    case 1: /* cut off */
+        return length - between(1, length < 12 ? (uint32_t)length : 12);
+    case 2: /* a message left out */
+        memmove(plan + i, plan + i + size, length - i - size);
+        return length - size;
+    case 3: /* a message twice */
+        memcpy(copy, plan + i, size);
+        memcpy(plan + length, copy, size);
+        return length + size;
+    case 4: /* a message to the end: as good as before */
+        memcpy(copy, plan + i, size);
+        memmove(plan + i, plan + i + size, length - i - size);
+        memcpy(plan + length - size, copy, size);
+        return length;
+    case 5: /* another octet */
+        plan[below((uint32_t)length)] = (uint8_t)chance();
+        return length;
+    case 6: /* another bit of the last octet: a mark, a spare bit, or a type */
+        plan[i + size - 1] ^= (uint8_t)(1u << below(8));
+        return length;
+    case 7: /* the spare bits of the circuit number, or another circuit */
+        plan[i + 2] ^= (uint8_t)(1u << below(8));
+        return length;
+    case 8: /* a length octet at the end */
+        plan[length] = (uint8_t)below(5);
+        return length + 1;
+    default:
+        return length;
+    }
+}
+
+static void generated_nights(void)
+{
+    static uint8_t plan[sizeof planned];
+    for (unsigned i = 0; i < NIGHTS; i++) {
+        uint32_t kind = below(2), sender = one_in(20) ? chance() % 512 : 7;
+        some_night(kind);
+        size_t count = 0;
+        for (unsigned c = 0; c < 4096; c++)
+            count += before_tables.ticks[c] != 0;
+        if (one_in(50))
+            kind = chance();
+        if (one_in(50)) {
+            states_length = between(4095, 4097);
+            owners_length = between(4095, 4097);
+            helpers_length = between(4095, 4097);
+            ticks_length = between(4095, 4097);
+        }
+        size_t room = one_in(6) && count ? 9 * count - 1 : one_in(6) ? below(36865) : 9 * count;
+        uint32_t got = try_plan(sender, kind, room);
+        if (i % 16 == 0 && (got >> 16 == 0 || got >> 16 == 25 || got >> 16 == 13)) {
+            checks++;
+            if (no_plan(sender, kind) != (got >> 16 == 25) && failed("plan"))
+                printf("  answers %x, and a plan %s\n", got, got >> 16 == 25 ? "exists" : "does not exist");
+        }
+        states_length = owners_length = helpers_length = ticks_length = 4096;
+        if (got >> 16)
+            continue;
+        try_check(sender, kind, planned, planned_length);
+        for (unsigned k = 0; k < 4; k++) {
+            memcpy(plan, planned, planned_length);
+            size_t length = spoil_plan(plan, planned_length);
+            if (length && one_in(4))
+                length = spoil_plan(plan, length);
+            try_check(sender, kind, plan, length);
+        }
+        before_tables.ticks[below(4096)] ^= 1;
+        ready_tables();
+        try_check(sender, kind, planned, planned_length);
     }
 }
 
@@ -2128,6 +2625,8 @@ static void reached(void)
         [SCCP_COMPACT] = {1, 1, 1, 1, 1, 1, 1, 1, 1, 0, 0, 0, 1, 1},
         [ASKING] = {[0] = 1, [9] = 1, [16] = 1, [18] = 1},
         [REBUILD] = {[0] = 1, [16] = 1},
+        [PLANNING] = {[0] = 1, [13] = 1, [14] = 1, [16] = 1, [20] = 1, [25] = 1},
+        [CHECKING] = {1, 1}, /* no and yes */
     };
     for (int f = 0; f < FUNCTIONS; f++) {
         printf("%-13s", names[f]);
@@ -2176,10 +2675,12 @@ int main(void)
     helper_cases();
     block_cases();
     totals_cases();
+    plan_cases();
     bicc_cases();
     sccp_cases();
     velocity_cases();
     generated();
+    generated_nights();
     generated_sccp();
     generated_velocities();
     reached();

@@ -8,7 +8,7 @@ import model
 from generate import Generator, generate, coverage, table, STORED_COUNT, STORED_SEED, TYPES
 from samples import SAMPLES
 
-# The numbers that each request can give. 16 is out of reach: the desk's tables have 4096 octets each, and its totals 64.
+# The numbers that each request can give. 16 is out of reach: the desk's tables have 4096 octets each, its ticks too, and its totals 64.
 READER = [1, 2, 3, 4, 5, 6, 7, 8]
 REACHED = {
     "shape": [3],
@@ -42,6 +42,9 @@ REACHED = {
     "totals": [],
     "total": [],
     "rebuild": [],
+    "tick": [],
+    "plan": [14, 20, 25, 13],
+    "check": [],
 }
 
 faults = []
@@ -57,7 +60,7 @@ def samples():
     for request, wanted in SAMPLES:
         got = desk.answer(request.encode()).decode()
         check(got == wanted, "%s\n  answers %s\n  wanted  %s" % (request, got, wanted))
-    check(not any(desk.states + desk.owners + desk.helpers + desk.totals), "the samples leave the tables as at the start")
+    check(not any(desk.states + desk.owners + desk.helpers + desk.totals + desk.ticks), "the samples leave the tables as at the start")
 
 
 def lines():
@@ -84,13 +87,18 @@ def lines():
             (b"totals\r\ntotals \n totals\ntotals 0\ntotal\n", b"totals " + b"00" * 64 + b"\n" + b"bad line\n" * 4),
             (b"rebuild\nrebuild \nrebuild 0\n", b"ok\n" + b"bad line\n" * 2),
             (b"total 63 255\ntotal 64 0\ntotal 0 256\ntotal 0\ntotal 0 0 0\n", b"ok\n" + b"bad line\n" * 4),
+            (b"tick 0 4095 255\ntick 9 8 1\ntick 0 4096 1\ntick 0 0 256\ntick 0 0\n", b"ok\n" + b"bad line\n" * 4),
+            (b"plan 1 0 36864\nplan 1 0 36865\nplan 1 2 0\nplan 4294967295 4294967295 0\nplan 1 0\n", b"octets -\nbad line\nrefused 14\nrefused 14\nbad line\n"),
+            (b"check 4294967295 1 -\ncheck 1 2 -\ncheck 1 0\ncheck 1 0 0\n", b"yes\nno\nbad line\nbad line\n"),
+            (b"check 1 0 " + b"00" * 36864 + b"\ncheck 1 0 " + b"00" * 36865 + b"\n", b"no\nbad line\n"),
             (b"busy 4294967295 0\nbusy 0 4294967295\nbusy 0 4294967296\nbusy 0\n", b"refused 18\nrefused 9\nbad line\nbad line\n")):
         got = model.answers(data)
         check(got == wanted, "%r\n  answers %r\n  wanted  %r" % (data[:60], got, wanted))
-    for digits, wanted in ((6, b"refused 10\n"), (7, b"bad line\n")):
-        line = b"write " + b"1".zfill(digits) + b" 0c" + (b" " + b"00" * 1021) * 4 + b" 1024"
-        check(len(line) == 8186 + digits, "a line of 8192 octets and one more")
-        check(model.answers(line + b"\r\n") == wanted, "a line of %d octets" % len(line))
+    # No request has as many octets as a line may have; this is the longest.
+    line = b"check 4294967295 4294967295 " + b"00" * 36864
+    check(len(line) < 81920 and model.answers(line + b"\r\n") == b"no\n", "a line of %d octets" % len(line))
+    for count in (81920, 81921, 200000):
+        check(model.answers(b"x" * count + b"\r\n") == b"bad line\n", "a line of %d octets" % count)
 
 
 def shapes():

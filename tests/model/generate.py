@@ -13,10 +13,11 @@ sys.dont_write_bytecode = True
 import model
 import velocities
 from roaming import Roaming
+from nights import Nights
 from model import SHAPES, IAM, REL, RSC, BLO, UBL, GRS, CGB, CGU, CQM
 
 STORED_COUNT = 7000
-STORED_SEED = 768
+STORED_SEED = 780
 
 TYPES = sorted(SHAPES)
 WITH_VARIABLE = [kind for kind in TYPES if SHAPES[kind].variable]
@@ -41,7 +42,7 @@ def ends(kind):
     return 3 + row.fixed, 3 + row.fixed + row.variable + (1 if row.optional else 0)
 
 
-class Generator(Roaming):
+class Generator(Roaming, Nights):
     def __init__(self, seed):
         self.rng = random.Random(seed)
         self.desk = model.Desk()        # follows the requests, so that a scene knows who owns what
@@ -919,17 +920,17 @@ class Generator(Roaming):
 
     def request(self):
         return self.pick([self.shape, self.read, self.write, self.compact, self.find, self.number, self.dial,
-                          self.look, self.strange, self.spans, self.ours, self.counting, self.velocity, self.velocity_back, self.bicc_shape, self.bicc_read,
+                          self.look, self.strange, self.spans, self.ours, self.counting, self.night, self.velocity, self.velocity_back, self.bicc_shape, self.bicc_read,
                           self.bicc_write, self.bicc_compact, self.sccp_shape, self.sccp_read, self.sccp_write, self.sccp_compact, self.lists])()[0]
 
     def long(self):
-        """Lines of 8192 octets, of one more, and of many more."""
-        count = self.pick([8191, 8192, 8192, 8193, 8193, 8194, 9000, 20000])
+        """Long lines: of no request, with a field that is too long, and a write with as many octets as it may have."""
+        count = self.pick([8191, 8192, 8193, 8194, 9000, 20000])
         if count > 8200 or self.chance(0.2):
             if self.chance(0.5):
                 return b"read " + b"00" * ((count - 5) // 2) + b"0" * ((count - 5) % 2)
             return self.pick([b" ", b"a", b"\0", b"0"]) * count
-        # A write of 8192 octets is a request, and of one more is none.
+        # A write with nearly as many octets as its fields may have.
         sizes = self.pick([[1024, 1024, 1024, 1012], [1012, 1024, 1024, 1024], [1024, 1012, 1024, 1024]])
         front = b"write "
         rest = b" %02x" % self.pick([REL, IAM, 0x2B, 0xFF])
@@ -1021,13 +1022,13 @@ class Generator(Roaming):
         # Lines: their ends, their length, their fields.
         for digits, tail in ((5, b""), (6, b""), (7, b""), (6, b"\r"), (7, b"\r"), (6, b"\r\r")):
             made.append(b"write " + b"1".zfill(digits) + b" 0c" + (b" " + b"00" * 1021) * 4 + b" 1024" + tail)
-        made += [b"write 1 0c" + (b" " + b"00" * 1024) * 4 + b" 1024", b"x" * 20000]
+        made += [b"write 1 0c" + (b" " + b"00" * 1024) * 4 + b" 1024", b"x" * 20000, b"x" * 81920, b"x" * 100000]
         made += [b"", b"\r", b"\r\r", b" ", b"\0", b"shape 13\r", b"shape 13\r\r", b"shape 13 \r", b"shape 13\0"]
         made += [b"read " + b"00" * 1024, b"read " + b"00" * 1025]
         for line in (b"shape 13", b"read 230113", b"write 1 13 - - - - 3", b"compact 230113 3", b"find 20 01000900 200141",
                      b"bicc-shape 12", b"bicc-read 2301000012", b"bicc-write 1 12 - - - - 5", b"bicc-compact 2301000012 5",
                      b"number 0310 0", b"dial 3 1 0 01 3", b"own 9 9 3", b"helper 9 9 4", b"set 9 9 2", b"act 3 090013 3", b"rows 9 9",
-                     b"busy 9 9", b"totals", b"total 9 9", b"rebuild"):
+                     b"busy 9 9", b"totals", b"total 9 9", b"rebuild", b"tick 9 9 0", b"plan 3 2 0", b"check 3 0 -"):
             made.append(line)
             words = line.split(b" ")
             for at in range(len(words)):
@@ -1108,7 +1109,7 @@ class Generator(Roaming):
         made += [b"velocity-back 0 0 255 up", b"velocity-back 0 0 256 up", b"velocity", b"velocity 1", b"velocity 1 1 1",
                  b"velocity 1 1 1 up 1", b"velocity-back", b"velocity-back 1", b"velocity-back 1 1 1", b"velocity-bac 1 1",
                  b"velocity-back- 1 1", b"velocity-backs 1 1", b"velocity- 1 1", b"velocity 1 1 up 1", b"velocity 1  1"]
-        return [[line] for line in made + self.roaming_limits()]
+        return [[line] for line in made + self.roaming_limits()] + self.night_limits()
 
     def tables(self):
         """Scenes with the tables at the very edge of each circuit rule."""
@@ -1268,7 +1269,7 @@ class Generator(Roaming):
         """The next corner; all of them come before one comes again."""
         if not self.corners:
             self.rounds += 1
-            self.corners = self.shuffled(self.limits() + self.tables())
+            self.corners = self.shuffled(self.limits() + self.tables() + self.night_tables())
         return list(self.corners.pop())
 
     # ------------------------------------------------------------ the stream
@@ -1279,7 +1280,7 @@ class Generator(Roaming):
         return self.weighted([
             (3, self.shape), (22, self.read), (20, self.write), (15, self.compact), (18, self.find),
             (9, self.number), (9, self.dial), (10, self.group), (7, self.single), (7, self.helped), (4, self.going), (1, self.spans),
-            (18, self.strange), (6, self.ours), (4, self.counting), (1, self.look), (10, self.velocity), (4, self.velocity_back), (2, self.bicc_shape), (14, self.bicc_read), (12, self.bicc_write),
+            (18, self.strange), (6, self.ours), (4, self.counting), (4, self.night), (1, self.look), (10, self.velocity), (4, self.velocity_back), (2, self.bicc_shape), (14, self.bicc_read), (12, self.bicc_write),
             (10, self.bicc_compact), (3, self.sccp_shape), (16, self.sccp_read), (14, self.sccp_write), (12, self.sccp_compact), (20, self.lists),
             (12, lambda: [self.bad()])])()
 

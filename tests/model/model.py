@@ -579,6 +579,86 @@ def rebuild(states, totals):
     return "ok"
 
 
+# ---------------------------------------------------------------- a maintenance night
+
+def group_block(kind, m, marks):
+    """CGB of a kind: the circuits from m on, and for each whether it is marked."""
+    status = bytearray((len(marks) - 1) // 8 + 1)
+    for n, mark in enumerate(marks):
+        if mark:
+            status[n // 8] |= 1 << n % 8
+    return plain(m, CGB, bytes([kind]), bytes([len(marks) - 1]) + bytes(status))
+
+
+def markings(kind, c):
+    """The shortest messages that mark circuit c alone: BLO for maintenance, and CGB of range 1 with a neighbour. Whatever else may be in a
+    message that marks c can be left out of it, so one of these is accepted where any such message is."""
+    found = [plain(c, BLO)] if kind == 0 else []
+    if c < 4095:
+        found.append(group_block(kind, c, (True, False)))
+    if c > 0:
+        found.append(group_block(kind, c - 1, (False, True)))
+    return found
+
+
+def plan(states, owners, helpers, ticks, sender, kind, room):
+    """16, 14, 20 for any bad row, 25 where no plan exists, 13 under 9 octets for each ticked circuit. Accepted: the plan's octets.
+
+    Of the plans that there are, ours is: from circuit 0 up, ticked circuits in a row, up to 32, are one CGB with every bit set; a single one is
+    BLO for maintenance, and for hardware a CGB of range 1 with the next circuit where the sender owns that, else with the one before."""
+    if any(len(table) != CIRCUITS for table in (states, owners, helpers, ticks)):
+        return 16
+    if kind > 1:
+        return 14
+    if any(state not in LEGAL for state in states):
+        return 20
+    ticked = [c for c in range(CIRCUITS) if ticks[c]]
+    for c in ticked:
+        if all(refused(act(states, owners, helpers, sender, message, LONGEST)) for message in markings(kind, c)):
+            return 25
+    if room < 9 * len(ticked):
+        return 13
+    made, c = b"", 0
+    while c < CIRCUITS:
+        count = 0
+        while count < 32 and c + count < CIRCUITS and ticks[c + count]:
+            count += 1
+        if count > 1:
+            message = group_block(kind, c, (True,) * count)
+        elif count == 1 and kind == 0:
+            message = plain(c, BLO)
+        elif count == 1 and c < 4095 and owners[c + 1] == sender:
+            message = group_block(kind, c, (True, False))
+        elif count == 1:
+            message = group_block(kind, c - 1, (False, True))
+        if count:
+            made += bytes([len(message)]) + message
+        c += max(1, count)
+    return made
+
+
+def check(states, owners, helpers, ticks, sender, kind, plan):
+    """Whether the hub would accept every message in turn, and the ticked circuits are marked, or named by BLO, once each, no others."""
+    if any(len(table) != CIRCUITS for table in (states, owners, helpers, ticks)) or kind > 1:
+        return False
+    states, times = bytearray(states), [0] * CIRCUITS
+    while plan:
+        length, plan = plan[0], plan[1:]
+        if len(plan) < length:
+            return False
+        message, plan = plan[:length], plan[length:]
+        done = act(states, owners, helpers, sender, message, LONGEST)
+        if refused(done):
+            return False
+        got = read(message)
+        if not (got.kind == CGB and got.fixed[0] % 4 == kind or got.kind == BLO and kind == 0):
+            return False
+        for n, mark in enumerate(ask(got).marks):
+            times[got.circuit + n] += mark
+        states[got.circuit:got.circuit + len(done[1])] = done[1]
+    return all(times[c] == (1 if ticks[c] else 0) for c in range(CIRCUITS))
+
+
 # ---------------------------------------------------------------- the fields of a line
 
 class BadLine(Exception):
@@ -587,8 +667,9 @@ class BadLine(Exception):
 
 DIGITS = b"0123456789"
 HEX = b"0123456789abcdef"
-LONGEST_LINE = 8192
+LONGEST_LINE = 81920
 MOST_OCTETS = 1024
+MOST_PLANNED = 36864
 
 
 def to(most):
@@ -605,14 +686,19 @@ def to(most):
     return field
 
 
-def octets(word):
-    """A field of octets: two hexadecimal digits each, either case; `-` for none; up to 1024."""
+def octets(word, most=MOST_OCTETS):
+    """A field of octets: two hexadecimal digits each, either case; `-` for none; up to 1024, of a plan more."""
     if word == b"-":
         return b""
     digits = word.lower()
-    if not digits or len(digits) % 2 or len(digits) > 2 * MOST_OCTETS or any(each not in HEX for each in digits):
+    if not digits or len(digits) % 2 or len(digits) > 2 * most or any(each not in HEX for each in digits):
         raise BadLine
     return bytes(16 * HEX.index(digits[i]) + HEX.index(digits[i + 1]) for i in range(0, len(digits), 2))
+
+
+def planned(word):
+    """A plan: octets, up to nine for each circuit."""
+    return octets(word, MOST_PLANNED)
 
 
 def octet(word):
@@ -640,6 +726,7 @@ def mark(word):
 ANY = to(4294967295)
 CODE = to(65535)
 ROOM = to(1024)
+PLAN_ROOM = to(MOST_PLANNED)
 CIRCUIT = to(4095)
 SMALL = to(255)
 ONE_BLOCK = to(63)
@@ -676,6 +763,9 @@ FIELDS = {
     b"totals": (),
     b"total": (ONE_BLOCK, SMALL),
     b"rebuild": (),
+    b"tick": (CIRCUIT, CIRCUIT, SMALL),
+    b"plan": (ANY, ANY, PLAN_ROOM),
+    b"check": (ANY, ANY, planned),
 }
 
 # The requests that have a second form, with more fields.
@@ -696,7 +786,7 @@ def request(line):
     if fields is None or len(words) != 1 + len(fields):
         raise BadLine
     values = [field(word) for field, word in zip(fields, words[1:])]
-    if words[0] in (b"own", b"helper", b"set", b"rows") and values[0] > values[1]:
+    if words[0] in (b"own", b"helper", b"set", b"rows", b"tick") and values[0] > values[1]:
         raise BadLine
     return words[0].decode().replace("-", "_"), values
 
@@ -726,13 +816,14 @@ def written(answer):
 # ---------------------------------------------------------------- the desk
 
 class Desk:
-    """One table of states, one of owners, one of helpers and the totals, all 0 at the start."""
+    """One table of states, one of owners, one of helpers, the totals and the ticks, all 0 at the start."""
 
     def __init__(self):
         self.states = bytearray(CIRCUITS)
         self.owners = bytearray(CIRCUITS)
         self.helpers = bytearray(CIRCUITS)
         self.totals = bytearray(BLOCKS)
+        self.ticks = bytearray(CIRCUITS)
 
     def answer(self, line):
         """The answer line, without LF. The line comes without its LF and without a CR right before that LF."""
@@ -866,6 +957,16 @@ class Desk:
 
     def on_rebuild(self):
         return rebuild(self.states, self.totals)
+
+    def on_tick(self, first, last, octet):
+        self.ticks[first:last + 1] = bytes([octet]) * (last + 1 - first)
+        return "ok"
+
+    def on_plan(self, sender, kind, room):
+        return written(plan(self.states, self.owners, self.helpers, self.ticks, sender, kind, room))
+
+    def on_check(self, sender, kind, plan):
+        return "yes" if check(self.states, self.owners, self.helpers, self.ticks, sender, kind, plan) else "no"
 
     def on_velocity(self, bearing, speed, vertical=None, mark=None):
         codes = velocities.coded(bearing, speed, vertical)

@@ -282,6 +282,53 @@ SAMPLES = [
     ("rebuild", "ok"),
     ("busy 0 4095", "count 9 looked 64"),
 
+    # A maintenance night: ticked circuits in a row are one CGB, a single one is BLO; for hardware it is a CGB of range 1 with an owned neighbour.
+    ("own 0 4095 0", "ok"),
+    ("set 0 4095 0", "ok"),
+    ("plan 7 0 0", "octets -"),
+    ("check 7 0 -", "yes"),
+    ("check 0 1 -", "yes"),
+    ("check 7 2 -", "no"),
+    ("own 5 9 7", "ok"),
+    ("helper 9 10 7", "ok"),
+    ("tick 5 6 255", "ok"),
+    ("tick 10 10 1", "ok"),
+    ("plan 7 0 27", "octets 08050018000102010303" + "0a0013"),
+    ("check 7 0 080500180001020103030a0013", "yes"),
+    ("check 7 0 030a001308050018000102" + "0103", "yes"),                # in another order
+    ("check 7 0 0305001303060013030a0013", "yes"),                      # BLO for each
+    ("check 7 0 0905001800010305010003030a0013", "no"),                 # a tick left out, and octets that are no CGB
+    ("check 7 0 080500180001020103", "no"),                             # 10 is left out
+    ("check 7 0 080500180001020103030a0013030a0013", "no"),             # 10 twice
+    ("check 7 0 080500180001020103030a0013" + "03070013", "no"),        # 7 is not ticked
+    ("check 7 0 080500180001020103030a00", "no"),                       # cut off
+    ("check 7 0 080500180001020103030a001300", "no"),                   # a length octet of 0
+    ("check 7 0 080500180001020103030a0014", "no"),                     # UBL
+    ("check 7 0 080500180101020103030a0013", "no"),                     # for hardware
+    ("check 8 0 080500180001020103030a0013", "no"),
+    ("check 7 0 080500180001020103030a0013080500180001020100", "yes"),  # one that marks nothing
+    # 14, 20, 25, 13: 10 is only helped, so for hardware there is no plan.
+    ("plan 7 2 27", "refused 14"),
+    ("set 4095 4095 5", "ok"),
+    ("plan 7 2 0", "refused 14"),
+    ("plan 7 1 0", "refused 20"),
+    ("set 4095 4095 0", "ok"),
+    ("plan 7 1 0", "refused 25"),
+    ("plan 8 0 0", "refused 25"),
+    ("plan 7 0 26", "refused 13"),
+    ("tick 10 10 0", "ok"),
+    ("tick 9 9 1", "ok"),
+    ("plan 7 1 27", "octets 080500180101020103" + "080800180101020102"),  # 10 is helped: 9 goes with 8
+    ("own 10 10 7", "ok"),
+    ("plan 7 1 27", "octets 080500180101020103" + "080900180101020101"),
+    ("check 7 1 080500180101020103080900180101020101", "yes"),
+    ("check 7 1 08050018010102010303090013", "no"),                     # BLO is none for hardware
+    ("check 7 1 080500180101020103080900180001020101", "no"),
+    ("act 7 0500180101020103 268", "answer 05001a0101020103"),
+    ("check 7 1 080500180101020103080900180101020101", "yes"),
+    ("tick 0 4095 0", "ok"),
+    ("helper 0 4095 0", "ok"),
+
     # The tables as at the start.
     ("own 0 4095 0", "ok"),
     ("set 0 4095 0", "ok"),

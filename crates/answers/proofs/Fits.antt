@@ -5,14 +5,14 @@ use mathlib.Core.Path.{_≡_, refl, sym, _∙_, ap}
 use mathlib.Core.Bool.{Bool, true, false}
 use mathlib.Core.List.{List, [], _∷_, _++_}
 use native.Mathlib.Omega.{arith}
-use borrow.Author.Tests.{le-ltb, ltb-false, eqb-true}
+use borrow.Author.Tests.{le-ltb, ltb-true, ltb-false, eqb-true, ne-eqb}
 use lib.Dec.{ltb, leb, eqb}
 use lib.ListN.{length, take, drop, replicate, length-append, length-take, length-drop, length-replicate, set}
 use lib.Ieee.{Float}
 use Rattle.octets.specs.Octet.{octets}
 use Rattle.octets.specs.Choice.{if_then_else_}
 use Rattle.octets.specs.Answer.{Answer, accepted, refused, _then_}
-use Rattle.octets.specs.Filled.{done, roomFor}
+use Rattle.octets.specs.Filled.{done, leaving, roomFor}
 use Rattle.layout.specs.declared.Row.{Row}
 use Rattle.layout.specs.declared.Row.the-variants.{Has, Unknown}
 use Rattle.layout.specs.declared.Span.{Span}
@@ -55,13 +55,20 @@ use Rattle.velocity.specs.Velocity.{codesOf, Stands, alone, beside, knownOf}
 use Rattle.totals.specs.declared.Count.{Count}
 use Rattle.totals.specs.Blocks.{rebuildOf}
 use Rattle.totals.specs.Question.{busyBetween}
+use Rattle.layout.proofs.Packed.{bit-small}
+use Rattle.hub.specs.Tables.{Tables}
+use Rattle.plans.specs.Plans.{ticked}
+use Rattle.plans.specs.Turns.{checkAt}
+use Rattle.surveys.specs.Surveys.{tickCount}
+use Rattle.planning.specs.Outcome.{plannedOf}
+use Rattle.planning.proofs.Outcome.{plan-nine}
 use Rattle.board.proofs.Kept.{board-buffer-length, desk-board-buffer-length}
 use Rattle.words.specs.Said.{said}
 use Rattle.printing.specs.Sheet.{sheet, pour}
 use Rattle.printing.specs.Shown.{decimalIn, decimalOf, hexPairs, hexOf}
 use Rattle.printing.proofs.Pours.{pour-one, pour-append}
 use Rattle.requests.specs.Kinds.{FieldSays}
-use Rattle.requests.specs.Rows.{SHAPE, READ, WRITE, COMPACT, NUMBER, OWN, HELPER, SET, ACT, BLOCK, UNBLOCK, VELOCITY, VELOCITY-LONG, VELOCITY-BACK, VELOCITY-BACK-LONG, BICC-SHAPE, BICC-READ, BICC-WRITE, BICC-COMPACT, SCCP-SHAPE, SCCP-READ, SCCP-WRITE, SCCP-COMPACT, LIST, BICC-LIST, SCCP-LIST, BUSY, TOTALS, TOTAL, REBUILD}
+use Rattle.requests.specs.Rows.{SHAPE, READ, WRITE, COMPACT, NUMBER, OWN, HELPER, SET, ACT, BLOCK, UNBLOCK, VELOCITY, VELOCITY-LONG, VELOCITY-BACK, VELOCITY-BACK-LONG, BICC-SHAPE, BICC-READ, BICC-WRITE, BICC-COMPACT, SCCP-SHAPE, SCCP-READ, SCCP-WRITE, SCCP-COMPACT, LIST, BICC-LIST, SCCP-LIST, BUSY, TOTALS, TOTAL, REBUILD, TICK, PLAN, CHECK}
 use Rattle.requests.specs.Words.{Asked, asks, nothing, askedOf, numberAt, octetAt, octetsAt}
 use Rattle.requests.proofs.Sound.{Short, short}
 use Rattle.lines.specs.Lines.{counted, shown, refusal, faultLine, writtenLine, octetsLine, blank, lent, againLine, compactLine}
@@ -79,8 +86,9 @@ use Rattle.velocity_lines.specs.Velocities.{typedMark, markWord, codesLine, cod
 use Rattle.octets.specs.Applied.{spread}
 use Rattle.block_lines.specs.Blocks.{noticeLine, blockDone}
 use Rattle.busy_lines.specs.Busy.{busyLine, rebuildLine, busyAfter, rebuilt, busyDone}
-use Rattle.table_lines.specs.Tables.{DeskTables, deskTables, Turn, turn, Left, left, leftBy, rowsLine, setTurn, tableTurn, replyLine, actsOf, actTurn}
-use Rattle.answers.specs.Turns.{blockTurn, furtherLine, furtherDone, furtherTurn, turnBy, turnFor, turnOf, turnIn, withLineEnd}
+use Rattle.plan_lines.specs.Night.{planLent, planLine, checkedLine, nightAfter, nightDone}
+use Rattle.table_lines.specs.Tables.{DeskTables, deskTables, turn, rowsLine, setTurn, tableTurn, replyLine, actsOf, actTurn}
+use Rattle.answers.specs.Turns.{Desk, DeskTurn, deskTurn, DeskLeft, deskLeft, deskLeftBy, badTurn, blockTurn, furtherLine, furtherDone, furtherTurn, turnBy, heldTurn, nightTurn, rowTurn, turnFor, turnOf, turnIn, withLineEnd}
 use Rattle.answers.proofs.Determined.{AnswersLine}
 
 -- ten digits at the most
@@ -492,10 +500,10 @@ module _ (T : DeskTables) (k : length (T .tables .states) ≤ 4096) (w : length 
       go false true = busy-fits (T .tables .states) (T .totals) w which gs
       go false false = omega arith
 
-  -- whatever is asked
-  asked-fits : (a : Asked) → Short a → length (turnFor T a .line) ≤ 40000
+  -- a row before those of a maintenance night
+  held-fits : (which : ℕ) (gs : List FieldSays) → ShortAll gs → length (turnBy T which gs .line) ≤ 40000
   unfolding turnBy
-  asked-fits (asks which gs) h = go (ltb which NUMBER) (ltb which OWN) (ltb which ACT) (eqb which ACT) (leb which UNBLOCK) (leb which VELOCITY-BACK-LONG) (leb which BICC-COMPACT)
+  held-fits which gs h = go (ltb which NUMBER) (ltb which OWN) (ltb which ACT) (eqb which ACT) (leb which UNBLOCK) (leb which VELOCITY-BACK-LONG) (leb which BICC-COMPACT)
     where
       go : (a b c d u e f : Bool) → length ((if a then turn T (codecLine which gs)
           else if b then turn T (numbersLine which gs)
@@ -513,24 +521,78 @@ module _ (T : DeskTables) (k : length (T .tables .states) ≤ 4096) (w : length 
       go false false false false false true f = velocities-fit which gs
       go false false false false false false true = bicc-fits which gs h
       go false false false false false false false = further-turn-fits which gs h
+
+-- no more are ticked than there are
+ticks-few : (tick : ℕ → Bool) (c n : ℕ) → tickCount tick c n ≤ n
+unfolding tickCount
+ticks-few tick c zero = omega arith
+ticks-few tick c (suc n) = omega (arith, bit-small (tick c), ticks-few tick (suc c) n)
+
+-- a plan's line, of nine octets for each circuit at the most
+plan-line-fits : (T : Tables) (ticks : List ℕ) (sender kind room : ℕ) → length (planLine T ticks sender kind room) ≤ 80000
+unfolding writtenLine
+plan-line-fits T ticks sender kind room = go (plannedOf T ticks sender kind (planLent room) .answer) refl
+  where
+    rest : List ℕ
+    rest = plannedOf T ticks sender kind (planLent room) .left
+
+    go : (x : Answer ℕ) → plannedOf T ticks sender kind (planLent room) .answer ≡ x → length (writtenLine x rest) ≤ 80000
+    go (accepted n) e =
+        let s = plan-nine T ticks sender kind (planLent room) n rest (ap (λ (x : Answer ℕ). leaving x rest) (sym e)) in
+        omega (arith, shown-length "octets " (take n rest) 36864 (omega (arith, length-take n rest, s, ticks-few (ticked ticks) 0 4096)))
+    go (refused n at) e = omega (arith, counted-length "refused " n)
+
+checked-fits : (b : Bool) → length (checkedLine b) ≤ 3
+unfolding checkedLine
+checked-fits true = omega arith
+checked-fits false = omega arith
+
+-- those of a maintenance night
+night-fits : (T : Tables) (ticks : List ℕ) (which : ℕ) (gs : List FieldSays) → length (nightDone T ticks which gs .line) ≤ 80000
+unfolding nightDone
+night-fits T ticks which gs = go (eqb which TICK) (eqb which PLAN)
+  where
+    go : (a b : Bool)
+        → length ((if a then nightAfter (spread ticks (numberAt gs 0) (numberAt gs 1) (octetAt gs 2)) (said "ok")
+        else if b then nightAfter ticks (planLine T ticks (numberAt gs 0) (numberAt gs 1) (numberAt gs 2))
+        else nightAfter ticks (checkedLine (checkAt T ticks (numberAt gs 0) (numberAt gs 1) (octetsAt gs 2)))) .line) ≤ 80000
+    go true b = omega arith
+    go false true = plan-line-fits T ticks (numberAt gs 0) (numberAt gs 1) (numberAt gs 2)
+    go false false = omega (arith, checked-fits (checkAt T ticks (numberAt gs 0) (numberAt gs 1) (octetsAt gs 2)))
+
+module _ (D : Desk) (k : length (D .held .tables .states) ≤ 4096) (w : length (D .held .totals) ≤ 4096) where
+  -- whatever is asked
+  asked-fits : (a : Asked) → Short a → length (turnFor D a .line) ≤ 80000
+  unfolding rowTurn
+  asked-fits (asks which gs) h = go (ltb which TICK) (leb which CHECK) refl
+    where
+      others : ltb which TICK ≡ true → ShortAll gs
+      others e i = let z : eqb which CHECK ≡ false = ne-eqb which CHECK (λ q. omega (arith, ltb-true which TICK e)) in rw z at (h i)
+
+      go : (s t : Bool) → ltb which TICK ≡ s → length ((if s then heldTurn (D .ticks) (turnBy (D .held) which gs) else if t then nightTurn D which gs else badTurn D) .line) ≤ 80000
+      go true t e = omega (arith, held-fits (D .held) k w which gs (others e))
+      go false true e = night-fits (D .held .tables) (D .ticks) which gs
+      go false false e = omega arith
   asked-fits nothing h = omega arith
 
 -- of every line
-pub answer-fits : (line : List ℕ) (T : DeskTables) → length (turnOf line T .line) ≤ 40000
+pub answer-fits : (line : List ℕ) (D : Desk) → length (turnOf line D .line) ≤ 80000
 unfolding turnOf
-answer-fits line T = go (eqb (length (T .tables .states)) 4096) (if eqb (length (T .tables .owners)) 4096 then eqb (length (T .tables .helpers)) 4096 else false) (eqb (length (T .totals)) 64) refl refl
+answer-fits line D = go (eqb (length (D .held .tables .states)) 4096) (if eqb (length (D .held .tables .owners)) 4096 then eqb (length (D .held .tables .helpers)) 4096 else false) (eqb (length (D .held .totals)) 64) (eqb (length (D .ticks)) 4096) refl refl
   where
-    go : (s o t : Bool) → eqb (length (T .tables .states)) 4096 ≡ s → eqb (length (T .totals)) 64 ≡ t → length ((if (if (if s then o else false) then t else false) then turnFor T (askedOf line) else turn T (refusal 16)) .line) ≤ 40000
-    go true true true e f = asked-fits T (omega (arith, eqb-true (length (T .tables .states)) 4096 e)) (omega (arith, eqb-true (length (T .totals)) 64 f)) (askedOf line) (short line)
-    go true true false e f = omega (arith, counted-length "refused " 16)
-    go true false t e f = omega (arith, counted-length "refused " 16)
-    go false o t e f = omega (arith, counted-length "refused " 16)
+    go : (s o t u : Bool) → eqb (length (D .held .tables .states)) 4096 ≡ s → eqb (length (D .held .totals)) 64 ≡ t
+        → length ((if (if (if (if s then o else false) then t else false) then u else false) then turnFor D (askedOf line) else deskTurn D (refusal 16)) .line) ≤ 80000
+    go true true true true e f = asked-fits D (omega (arith, eqb-true (length (D .held .tables .states)) 4096 e)) (omega (arith, eqb-true (length (D .held .totals)) 64 f)) (askedOf line) (short line)
+    go true true true false e f = omega (arith, counted-length "refused " 16)
+    go true true false u e f = omega (arith, counted-length "refused " 16)
+    go true false t u e f = omega (arith, counted-length "refused " 16)
+    go false o t u e f = omega (arith, counted-length "refused " 16)
 
--- so with 4168 octets of scratch a buffer of 65536 octets holds the whole line with its LF, at its front
-pub answer-whole : (scratch : ℕ) (line : List ℕ) (T : DeskTables) (buffer : List ℕ) (U : DeskTables) (b : List ℕ) (n : ℕ) → 4168 ≤ scratch → length buffer ≡ 65536 → AnswersLine scratch line T buffer U b n → (U ≡ turnOf line T .tables) × (take n b ≡ turnOf line T .line ++ (10 ∷ []))
-answer-whole scratch line T buffer U b n k h e =
-    let t = turnOf line T in
-    let same : turnIn scratch line T ≡ t = rw (le-ltb _ _ k) refl in
-    let e′ : left U (sheet b n) ≡ withLineEnd (leftBy t (sheet buffer 0)) = e ∙ ap (λ (x : Turn). withLineEnd (leftBy x (sheet buffer 0))) same in
-    let poured : sheet b n ≡ pour (sheet buffer 0) (t .line ++ (10 ∷ [])) = ap (λ (l : Left). l .sheet) e′ ∙ pour-one (pour (sheet buffer 0) (t .line)) 10 ∙ sym (pour-append (sheet buffer 0) (t .line) (10 ∷ [])) in
-    (ap (λ (l : Left). l .tables) e′, poured-front buffer (t .line ++ (10 ∷ [])) b n poured (omega (arith, answer-fits line T, length-append (t .line) (10 ∷ []))) .1)
+-- so with 41032 octets of scratch a buffer of 81920 octets holds the whole line with its LF, at its front
+pub answer-whole : (scratch : ℕ) (line : List ℕ) (D : Desk) (buffer : List ℕ) (E : Desk) (b : List ℕ) (n : ℕ) → 41032 ≤ scratch → length buffer ≡ 81920 → AnswersLine scratch line D buffer E b n → (E ≡ turnOf line D .desk) × (take n b ≡ turnOf line D .line ++ (10 ∷ []))
+answer-whole scratch line D buffer E b n k h e =
+    let t = turnOf line D in
+    let same : turnIn scratch line D ≡ t = rw (le-ltb _ _ k) refl in
+    let e′ : deskLeft E (sheet b n) ≡ withLineEnd (deskLeftBy t (sheet buffer 0)) = e ∙ ap (λ (x : DeskTurn). withLineEnd (deskLeftBy x (sheet buffer 0))) same in
+    let poured : sheet b n ≡ pour (sheet buffer 0) (t .line ++ (10 ∷ [])) = ap (λ (l : DeskLeft). l .sheet) e′ ∙ pour-one (pour (sheet buffer 0) (t .line)) 10 ∙ sym (pour-append (sheet buffer 0) (t .line) (10 ∷ [])) in
+    (ap (λ (l : DeskLeft). l .desk) e′, poured-front buffer (t .line ++ (10 ∷ [])) b n poured (omega (arith, answer-fits line D, length-append (t .line) (10 ∷ []))) .1)

@@ -13,7 +13,7 @@ use Rattle.octets.specs.Choice.{if_then_else_}
 use Rattle.board.proofs.Kept.{board-keeps, desk-board-keeps}
 use Rattle.words.specs.Said.{said}
 use Rattle.requests.specs.Kinds.{FieldSays}
-use Rattle.requests.specs.Rows.{NUMBER, OWN, HELPER, SET, ACT, BLOCK, UNBLOCK, VELOCITY-BACK-LONG, BICC-COMPACT, BUSY, TOTAL, REBUILD}
+use Rattle.requests.specs.Rows.{NUMBER, OWN, HELPER, SET, ACT, BLOCK, UNBLOCK, VELOCITY-BACK-LONG, BICC-COMPACT, BUSY, TOTAL, REBUILD, TICK, CHECK}
 use Rattle.requests.specs.Words.{Asked, asks, nothing, askedOf, numberAt, octetAt, octetsAt}
 use Rattle.lines.specs.Lines.{refusal, lent}
 use Rattle.codec_lines.specs.Codec.{codecLine}
@@ -24,8 +24,9 @@ use Rattle.octets.specs.Applied.{spread}
 use Rattle.block_lines.specs.Blocks.{blockDone}
 use Rattle.busy_lines.specs.Busy.{busyAfter, busyDone}
 use Rattle.busy_lines.proofs.Meaning.{others-keep-totals}
-use Rattle.table_lines.specs.Tables.{DeskTables, deskTables, allSized, Turn, turn, rowsLine, setTurn, tableTurn, actsOf, actTurn}
-use Rattle.answers.specs.Turns.{blockTurn, furtherLine, furtherDone, furtherTurn, turnBy, turnFor, turnOf}
+use Rattle.plan_lines.proofs.Meaning.{others-keep-ticks}
+use Rattle.table_lines.specs.Tables.{DeskTables, deskTables, Turn, turn, rowsLine, setTurn, tableTurn, actsOf, actTurn}
+use Rattle.answers.specs.Turns.{Desk, deskSized, deskTurn, badTurn, blockTurn, furtherLine, furtherDone, furtherTurn, turnBy, heldTurn, nightTurn, rowTurn, turnFor, turnOf}
 
 -- an `act` that the hub refuses
 abbrev pub Refused : DeskTables → List FieldSays → Type 0
@@ -180,63 +181,98 @@ module _ (T : DeskTables) (which : ℕ) (gs : List FieldSays) where
       go false false false false false false true f e g = refl
       go false false false false false false false f e g = further-totals t k
 
-module _ (line : List ℕ) (T : DeskTables) where
-  -- a line that is no request changes no table
-  pub bad-line-keeps : askedOf line ≡ nothing → turnOf line T .tables ≡ T
-  unfolding turnOf
-  bad-line-keeps e = go (allSized T)
+module _ (D : Desk) (which : ℕ) (gs : List FieldSays) where
+  -- the tables are what a row before `tick` leaves, or what they were
+  held-by : (P : DeskTables → Type 0) → P (turnBy (D .held) which gs .tables) → P (D .held) → P (rowTurn D which gs .desk .held)
+  unfolding rowTurn
+  held-by P a b = go (ltb which TICK) (leb which CHECK)
     where
-      go : (t : Bool) → (if t then turnFor T (askedOf line) else turn T (refusal 16)) .tables ≡ T
-      go true = ap (λ (a : Asked). turnFor T a .tables) e
+      go : (s t : Bool) → P ((if s then heldTurn (D .ticks) (turnBy (D .held) which gs) else if t then nightTurn D which gs else badTurn D) .desk .held)
+      go true t = a
+      go false true = b
+      go false false = b
+
+  -- only `tick` changes a tick
+  ticks-by : (which ≡ TICK → ⊥) → rowTurn D which gs .desk .ticks ≡ D .ticks
+  unfolding rowTurn
+  ticks-by n = go (ltb which TICK) (leb which CHECK)
+    where
+      go : (s t : Bool) → (if s then heldTurn (D .ticks) (turnBy (D .held) which gs) else if t then nightTurn D which gs else badTurn D) .desk .ticks ≡ D .ticks
+      go true t = refl
+      go false true = others-keep-ticks (D .held .tables) (D .ticks) gs which n
+      go false false = refl
+
+module _ (line : List ℕ) (D : Desk) where
+  -- a line that is no request changes no table
+  pub bad-line-keeps : askedOf line ≡ nothing → turnOf line D .desk ≡ D
+  unfolding turnOf
+  bad-line-keeps e = go (deskSized D)
+    where
+      go : (t : Bool) → (if t then turnFor D (askedOf line) else deskTurn D (refusal 16)) .desk ≡ D
+      go true = ap (λ (a : Asked). turnFor D a .desk) e
       go false = refl
 
   -- who owns a circuit changes by `own` alone
-  pub owners-kept : ((gs : List FieldSays) → askedOf line ≡ asks OWN gs → ⊥) → turnOf line T .tables .tables .owners ≡ T .tables .owners
+  pub owners-kept : ((gs : List FieldSays) → askedOf line ≡ asks OWN gs → ⊥) → turnOf line D .desk .held .tables .owners ≡ D .held .tables .owners
   unfolding turnOf
-  owners-kept h = go (allSized T) (askedOf line) refl
+  owners-kept h = go (deskSized D) (askedOf line) refl
     where
-      go : (t : Bool) (a : Asked) → askedOf line ≡ a → (if t then turnFor T a else turn T (refusal 16)) .tables .tables .owners ≡ T .tables .owners
-      go true (asks which gs) e = owners-by T which gs (λ w. h gs (e ∙ ap (λ (n : ℕ). asks n gs) w))
+      go : (t : Bool) (a : Asked) → askedOf line ≡ a → (if t then turnFor D a else deskTurn D (refusal 16)) .desk .held .tables .owners ≡ D .held .tables .owners
+      go true (asks which gs) e = held-by D which gs (λ (U : DeskTables). U .tables .owners ≡ D .held .tables .owners) (owners-by (D .held) which gs (λ w. h gs (e ∙ ap (λ (n : ℕ). asks n gs) w))) refl
       go true nothing e = refl
       go false a e = refl
 
   -- who helps a circuit changes by `helper` alone
-  pub helpers-kept : ((gs : List FieldSays) → askedOf line ≡ asks HELPER gs → ⊥) → turnOf line T .tables .tables .helpers ≡ T .tables .helpers
+  pub helpers-kept : ((gs : List FieldSays) → askedOf line ≡ asks HELPER gs → ⊥) → turnOf line D .desk .held .tables .helpers ≡ D .held .tables .helpers
   unfolding turnOf
-  helpers-kept h = go (allSized T) (askedOf line) refl
+  helpers-kept h = go (deskSized D) (askedOf line) refl
     where
-      go : (t : Bool) (a : Asked) → askedOf line ≡ a → (if t then turnFor T a else turn T (refusal 16)) .tables .tables .helpers ≡ T .tables .helpers
-      go true (asks which gs) e = helpers-by T which gs (λ w. h gs (e ∙ ap (λ (n : ℕ). asks n gs) w))
+      go : (t : Bool) (a : Asked) → askedOf line ≡ a → (if t then turnFor D a else deskTurn D (refusal 16)) .desk .held .tables .helpers ≡ D .held .tables .helpers
+      go true (asks which gs) e = held-by D which gs (λ (U : DeskTables). U .tables .helpers ≡ D .held .tables .helpers) (helpers-by (D .held) which gs (λ w. h gs (e ∙ ap (λ (n : ℕ). asks n gs) w))) refl
       go true nothing e = refl
       go false a e = refl
 
   -- a row changes by `set`, by an `act` that the hub does not refuse, or by a `block` or an `unblock` that is not refused
-  pub states-kept : ((gs : List FieldSays) → askedOf line ≡ asks SET gs → ⊥) → ((gs : List FieldSays) → askedOf line ≡ asks ACT gs → Refused T gs)
-      → ((gs : List FieldSays) → askedOf line ≡ asks BLOCK gs → NotBlocked T BLOCK gs) → ((gs : List FieldSays) → askedOf line ≡ asks UNBLOCK gs → NotBlocked T UNBLOCK gs) → turnOf line T .tables .tables .states ≡ T .tables .states
+  pub states-kept : ((gs : List FieldSays) → askedOf line ≡ asks SET gs → ⊥) → ((gs : List FieldSays) → askedOf line ≡ asks ACT gs → Refused (D .held) gs)
+      → ((gs : List FieldSays) → askedOf line ≡ asks BLOCK gs → NotBlocked (D .held) BLOCK gs) → ((gs : List FieldSays) → askedOf line ≡ asks UNBLOCK gs → NotBlocked (D .held) UNBLOCK gs) → turnOf line D .desk .held .tables .states ≡ D .held .tables .states
   unfolding turnOf
-  states-kept h r p q = go (allSized T) (askedOf line) refl
+  states-kept h r p q = go (deskSized D) (askedOf line) refl
     where
-      go : (t : Bool) (a : Asked) → askedOf line ≡ a → (if t then turnFor T a else turn T (refusal 16)) .tables .tables .states ≡ T .tables .states
+      go : (t : Bool) (a : Asked) → askedOf line ≡ a → (if t then turnFor D a else deskTurn D (refusal 16)) .desk .held .tables .states ≡ D .held .tables .states
       go true (asks which gs) e =
-          states-by T which gs (λ w. h gs (e ∙ ap (λ (n : ℕ). asks n gs) w)) (λ w. r gs (e ∙ ap (λ (n : ℕ). asks n gs) w))
-          (λ w. subst (λ (n : ℕ). NotBlocked T n gs) (sym w) (p gs (e ∙ ap (λ (n : ℕ). asks n gs) w)))
-          (λ w. subst (λ (n : ℕ). NotBlocked T n gs) (sym w) (q gs (e ∙ ap (λ (n : ℕ). asks n gs) w)))
+          held-by D which gs (λ (U : DeskTables). U .tables .states ≡ D .held .tables .states)
+          (states-by (D .held) which gs (λ w. h gs (e ∙ ap (λ (n : ℕ). asks n gs) w)) (λ w. r gs (e ∙ ap (λ (n : ℕ). asks n gs) w))
+          (λ w. subst (λ (n : ℕ). NotBlocked (D .held) n gs) (sym w) (p gs (e ∙ ap (λ (n : ℕ). asks n gs) w)))
+          (λ w. subst (λ (n : ℕ). NotBlocked (D .held) n gs) (sym w) (q gs (e ∙ ap (λ (n : ℕ). asks n gs) w))))
+          refl
       go true nothing e = refl
       go false a e = refl
 
   -- a total changes by these, by `total` and by `rebuild`
-  pub totals-kept : ((gs : List FieldSays) → askedOf line ≡ asks SET gs → ⊥) → ((gs : List FieldSays) → askedOf line ≡ asks ACT gs → Refused T gs)
-      → ((gs : List FieldSays) → askedOf line ≡ asks BLOCK gs → NotBlocked T BLOCK gs) → ((gs : List FieldSays) → askedOf line ≡ asks UNBLOCK gs → NotBlocked T UNBLOCK gs)
-      → ((gs : List FieldSays) → askedOf line ≡ asks TOTAL gs → ⊥) → ((gs : List FieldSays) → askedOf line ≡ asks REBUILD gs → ⊥) → turnOf line T .tables .totals ≡ T .totals
+  pub totals-kept : ((gs : List FieldSays) → askedOf line ≡ asks SET gs → ⊥) → ((gs : List FieldSays) → askedOf line ≡ asks ACT gs → Refused (D .held) gs)
+      → ((gs : List FieldSays) → askedOf line ≡ asks BLOCK gs → NotBlocked (D .held) BLOCK gs) → ((gs : List FieldSays) → askedOf line ≡ asks UNBLOCK gs → NotBlocked (D .held) UNBLOCK gs)
+      → ((gs : List FieldSays) → askedOf line ≡ asks TOTAL gs → ⊥) → ((gs : List FieldSays) → askedOf line ≡ asks REBUILD gs → ⊥) → turnOf line D .desk .held .totals ≡ D .held .totals
   unfolding turnOf
-  totals-kept h r p q t k = go (allSized T) (askedOf line) refl
+  totals-kept h r p q t k = go (deskSized D) (askedOf line) refl
     where
-      go : (b : Bool) (a : Asked) → askedOf line ≡ a → (if b then turnFor T a else turn T (refusal 16)) .tables .totals ≡ T .totals
+      go : (b : Bool) (a : Asked) → askedOf line ≡ a → (if b then turnFor D a else deskTurn D (refusal 16)) .desk .held .totals ≡ D .held .totals
       go true (asks which gs) e =
-          totals-by T which gs (λ w. h gs (e ∙ ap (λ (n : ℕ). asks n gs) w)) (λ w. r gs (e ∙ ap (λ (n : ℕ). asks n gs) w))
-          (λ w. subst (λ (n : ℕ). NotBlocked T n gs) (sym w) (p gs (e ∙ ap (λ (n : ℕ). asks n gs) w)))
-          (λ w. subst (λ (n : ℕ). NotBlocked T n gs) (sym w) (q gs (e ∙ ap (λ (n : ℕ). asks n gs) w)))
+          held-by D which gs (λ (U : DeskTables). U .totals ≡ D .held .totals)
+          (totals-by (D .held) which gs (λ w. h gs (e ∙ ap (λ (n : ℕ). asks n gs) w)) (λ w. r gs (e ∙ ap (λ (n : ℕ). asks n gs) w))
+          (λ w. subst (λ (n : ℕ). NotBlocked (D .held) n gs) (sym w) (p gs (e ∙ ap (λ (n : ℕ). asks n gs) w)))
+          (λ w. subst (λ (n : ℕ). NotBlocked (D .held) n gs) (sym w) (q gs (e ∙ ap (λ (n : ℕ). asks n gs) w)))
           (λ w. t gs (e ∙ ap (λ (n : ℕ). asks n gs) w))
-          (λ w. k gs (e ∙ ap (λ (n : ℕ). asks n gs) w))
+          (λ w. k gs (e ∙ ap (λ (n : ℕ). asks n gs) w)))
+          refl
+      go true nothing e = refl
+      go false a e = refl
+
+  -- a tick changes by `tick` alone: `plan` and `check` change nothing
+  pub ticks-kept : ((gs : List FieldSays) → askedOf line ≡ asks TICK gs → ⊥) → turnOf line D .desk .ticks ≡ D .ticks
+  unfolding turnOf
+  ticks-kept h = go (deskSized D) (askedOf line) refl
+    where
+      go : (t : Bool) (a : Asked) → askedOf line ≡ a → (if t then turnFor D a else deskTurn D (refusal 16)) .desk .ticks ≡ D .ticks
+      go true (asks which gs) e = ticks-by D which gs (λ w. h gs (e ∙ ap (λ (n : ℕ). asks n gs) w))
       go true nothing e = refl
       go false a e = refl

@@ -23,7 +23,7 @@ use Rattle.velocity_lines.specs.Velocities.{velocitiesLine}
 use Rattle.block_lines.specs.Blocks.{blockDone}
 use Rattle.busy_lines.specs.Busy.{busyDone}
 use Rattle.table_lines.specs.Tables.{DeskTables, turn, tableTurn, actTurn}
-use Rattle.answers.specs.Turns.{badTurn, blockTurn, furtherDone, furtherTurn, turnBy, turnFor, turnOf, turnIn}
+use Rattle.answers.specs.Turns.{Desk, deskTurn, badTurn, blockTurn, furtherTurn, turnBy, heldTurn, nightTurn, rowTurn, turnFor, turnOf, turnIn}
 
 module _ (T : DeskTables) (which : ℕ) (gs : List FieldSays) where
   -- a row of each family
@@ -92,45 +92,64 @@ pub busy-any : (states totals : List ℕ) (which : ℕ) (s t : List ℕ) (fs : L
 unfolding busyDone
 busy-any states totals which s t fs = rw (number-at s fs 0, number-at s fs 1, number-at t fs 0, number-at t fs 1) refl
 
+module _ (D : Desk) (which : ℕ) (gs : List FieldSays) where
+  -- a row before those of a maintenance night, one of them, and none
+  pub row-held : which < 33 → heldTurn (D .ticks) (turnBy (D .held) which gs) ≡ rowTurn D which gs
+  unfolding rowTurn
+  row-held h = rw (lt-ltb _ _ h) refl
+
+  pub row-night : 33 ≤ which → which ≤ 35 → nightTurn D which gs ≡ rowTurn D which gs
+  unfolding rowTurn
+  row-night l h = rw (le-ltb _ _ l, le-leb _ _ h) refl
+
+  pub row-bad : 33 ≤ which → 35 < which → badTurn D ≡ rowTurn D which gs
+  unfolding rowTurn
+  row-bad l h = rw (le-ltb _ _ l, lt-leb _ _ h) refl
+
 -- by the row alone
-says-turn : (T : DeskTables) (r : Request) (s : List ℕ) → turnBy T (r .which) (saidIn s (r .fields)) ≡ turnFor T (saysOf (taken r s))
-unfolding turnBy furtherDone
-says-turn T r s = go (eqb (r .which) 255) refl
+says-turn : (D : Desk) (r : Request) (s : List ℕ) → rowTurn D (r .which) (saidIn s (r .fields)) ≡ turnFor D (saysOf (taken r s))
+unfolding rowTurn
+says-turn D r s = go (eqb (r .which) 255) refl
   where
-    none : r .which ≡ 255 → turnBy T (r .which) (saidIn s (r .fields)) ≡ badTurn T
+    none : r .which ≡ 255 → rowTurn D (r .which) (saidIn s (r .fields)) ≡ badTurn D
     none e = rw e refl
 
-    go : (t : Bool) → eqb (r .which) 255 ≡ t → turnBy T (r .which) (saidIn s (r .fields)) ≡ turnFor T (if t then nothing else asks (r .which) (saidIn s (r .fields)))
+    go : (t : Bool) → eqb (r .which) 255 ≡ t → rowTurn D (r .which) (saidIn s (r .fields)) ≡ turnFor D (if t then nothing else asks (r .which) (saidIn s (r .fields)))
     go true e = none (eqb-true (r .which) 255 e)
     go false e = refl
 
-module _ (line scratch rest : List ℕ) (r : Request) (e : taken r rest ≡ requestOf line scratch) (h : 4168 ≤ length scratch) where
+module _ (line scratch rest : List ℕ) (r : Request) (e : taken r rest ≡ requestOf line scratch) (h : 41032 ≤ length scratch) where
   -- the request that was read asks what the line asks
   asked-same : saysOf (taken r rest) ≡ askedOf line
   asked-same = ap saysOf e ∙ request-says line scratch h
 
   -- so its turn is the line's
-  pub turn-asked : (T : DeskTables) → length (T .tables .states) ≡ 4096 → length (T .tables .owners) ≡ 4096 → length (T .tables .helpers) ≡ 4096 → length (T .totals) ≡ 64 → turnBy T (r .which) (saidIn rest (r .fields)) ≡ turnIn (length scratch) line T
+  pub turn-asked : (D : Desk) → length (D .held .tables .states) ≡ 4096 → length (D .held .tables .owners) ≡ 4096 → length (D .held .tables .helpers) ≡ 4096 → length (D .held .totals) ≡ 64 → length (D .ticks) ≡ 4096
+      → rowTurn D (r .which) (saidIn rest (r .fields)) ≡ turnIn (length scratch) line D
   unfolding turnOf
-  turn-asked T p q k w = rw (le-ltb _ _ h, eq-eqb _ _ p, eq-eqb _ _ q, eq-eqb _ _ k, eq-eqb _ _ w) (says-turn T r rest ∙ ap (turnFor T) asked-same)
+  turn-asked D p q k w t = rw (le-ltb _ _ h, eq-eqb _ _ p, eq-eqb _ _ q, eq-eqb _ _ k, eq-eqb _ _ w, eq-eqb _ _ t) (says-turn D r rest ∙ ap (turnFor D) asked-same)
 
 -- where a table or the scratch is too short
-module _ (line : List ℕ) (n : ℕ) (T : DeskTables) where
-  pub turn-scratch : n < 4168 → badTurn T ≡ turnIn n line T
+module _ (line : List ℕ) (n : ℕ) (D : Desk) where
+  pub turn-scratch : n < 41032 → badTurn D ≡ turnIn n line D
   turn-scratch h = rw (lt-ltb _ _ h) refl
 
-  pub turn-states : 4168 ≤ n → (length (T .tables .states) ≡ 4096 → ⊥) → turn T (refusal 16) ≡ turnIn n line T
+  pub turn-states : 41032 ≤ n → (length (D .held .tables .states) ≡ 4096 → ⊥) → deskTurn D (refusal 16) ≡ turnIn n line D
   unfolding turnOf
   turn-states h p = rw (le-ltb _ _ h, ne-eqb _ _ p) refl
 
-  pub turn-owners : 4168 ≤ n → length (T .tables .states) ≡ 4096 → (length (T .tables .owners) ≡ 4096 → ⊥) → turn T (refusal 16) ≡ turnIn n line T
+  pub turn-owners : 41032 ≤ n → length (D .held .tables .states) ≡ 4096 → (length (D .held .tables .owners) ≡ 4096 → ⊥) → deskTurn D (refusal 16) ≡ turnIn n line D
   unfolding turnOf
   turn-owners h p q = rw (le-ltb _ _ h, eq-eqb _ _ p, ne-eqb _ _ q) refl
 
-  pub turn-helpers : 4168 ≤ n → length (T .tables .states) ≡ 4096 → length (T .tables .owners) ≡ 4096 → (length (T .tables .helpers) ≡ 4096 → ⊥) → turn T (refusal 16) ≡ turnIn n line T
+  pub turn-helpers : 41032 ≤ n → length (D .held .tables .states) ≡ 4096 → length (D .held .tables .owners) ≡ 4096 → (length (D .held .tables .helpers) ≡ 4096 → ⊥) → deskTurn D (refusal 16) ≡ turnIn n line D
   unfolding turnOf
   turn-helpers h p q k = rw (le-ltb _ _ h, eq-eqb _ _ p, eq-eqb _ _ q, ne-eqb _ _ k) refl
 
-  pub turn-totals : 4168 ≤ n → length (T .tables .states) ≡ 4096 → length (T .tables .owners) ≡ 4096 → length (T .tables .helpers) ≡ 4096 → (length (T .totals) ≡ 64 → ⊥) → turn T (refusal 16) ≡ turnIn n line T
+  pub turn-totals : 41032 ≤ n → length (D .held .tables .states) ≡ 4096 → length (D .held .tables .owners) ≡ 4096 → length (D .held .tables .helpers) ≡ 4096 → (length (D .held .totals) ≡ 64 → ⊥) → deskTurn D (refusal 16) ≡ turnIn n line D
   unfolding turnOf
   turn-totals h p q k w = rw (le-ltb _ _ h, eq-eqb _ _ p, eq-eqb _ _ q, eq-eqb _ _ k, ne-eqb _ _ w) refl
+
+  pub turn-ticks : 41032 ≤ n → length (D .held .tables .states) ≡ 4096 → length (D .held .tables .owners) ≡ 4096 → length (D .held .tables .helpers) ≡ 4096 → length (D .held .totals) ≡ 64 → (length (D .ticks) ≡ 4096 → ⊥) → deskTurn D (refusal 16) ≡ turnIn n line D
+  unfolding turnOf
+  turn-ticks h p q k w t = rw (le-ltb _ _ h, eq-eqb _ _ p, eq-eqb _ _ q, eq-eqb _ _ k, eq-eqb _ _ w, ne-eqb _ _ t) refl

@@ -29,6 +29,7 @@ fn serve(
     owners: &mut [u8],
     helpers: &mut [u8],
     totals: &mut [u8],
+    ticks: &mut [u8],
     scratch: &mut [u8],
     out: &mut [u8],
 ) -> bool {
@@ -39,6 +40,7 @@ fn serve(
             owners,
             helpers,
             totals,
+            ticks,
             scratch,
             out,
         );
@@ -70,6 +72,7 @@ fn take_octet(
     owners: &mut [u8],
     helpers: &mut [u8],
     totals: &mut [u8],
+    ticks: &mut [u8],
     scratch: &mut [u8],
     out: &mut [u8],
     written: &mut bool,
@@ -82,6 +85,7 @@ fn take_octet(
             owners,
             helpers,
             totals,
+            ticks,
             scratch,
             out,
         );
@@ -99,6 +103,7 @@ fn take_in(
     owners: &mut [u8],
     helpers: &mut [u8],
     totals: &mut [u8],
+    ticks: &mut [u8],
     scratch: &mut [u8],
     out: &mut [u8],
     written: &mut bool,
@@ -117,6 +122,7 @@ fn take_in(
             owners,
             helpers,
             totals,
+            ticks,
             scratch,
             out,
             written,
@@ -135,6 +141,7 @@ fn read_some(
     owners: &mut [u8],
     helpers: &mut [u8],
     totals: &mut [u8],
+    ticks: &mut [u8],
     scratch: &mut [u8],
     out: &mut [u8],
     written: &mut bool,
@@ -155,6 +162,7 @@ fn read_some(
         owners,
         helpers,
         totals,
+        ticks,
         scratch,
         out,
         written,
@@ -170,6 +178,7 @@ fn read_all(
     owners: &mut [u8],
     helpers: &mut [u8],
     totals: &mut [u8],
+    ticks: &mut [u8],
     scratch: &mut [u8],
     out: &mut [u8],
     written: &mut bool,
@@ -185,6 +194,7 @@ fn read_all(
             owners,
             helpers,
             totals,
+            ticks,
             scratch,
             out,
             written,
@@ -213,11 +223,22 @@ fn serve_last(
     owners: &mut [u8],
     helpers: &mut [u8],
     totals: &mut [u8],
+    ticks: &mut [u8],
     scratch: &mut [u8],
     out: &mut [u8],
 ) -> bool {
     if 0 < held {
-        return serve(line, held, states, owners, helpers, totals, scratch, out);
+        return serve(
+            line,
+            held,
+            states,
+            owners,
+            helpers,
+            totals,
+            ticks,
+            scratch,
+            out,
+        );
     }
     written
 }
@@ -230,6 +251,7 @@ fn run(
     owners: &mut [u8],
     helpers: &mut [u8],
     totals: &mut [u8],
+    ticks: &mut [u8],
     scratch: &mut [u8],
     out: &mut [u8],
 ) {
@@ -241,6 +263,7 @@ fn run(
         owners,
         helpers,
         totals,
+        ticks,
         scratch,
         out,
         &mut written,
@@ -253,6 +276,7 @@ fn run(
         owners,
         helpers,
         totals,
+        ticks,
         scratch,
         out,
     ) {
@@ -265,10 +289,11 @@ fn main() {
     let mut owners = io::buffer();
     let mut helpers = io::buffer();
     let mut totals = [0u8; 64];
+    let mut ticks = io::buffer();
     let mut chunk = io::large_buffer();
-    let mut line = io::large_buffer();
+    let mut line = [0u8; 98304];
     let mut scratch = io::large_buffer();
-    let mut out = io::large_buffer();
+    let mut out = [0u8; 81920];
     run(
         &mut chunk,
         &mut line,
@@ -276,6 +301,7 @@ fn main() {
         &mut owners,
         &mut helpers,
         &mut totals,
+        &mut ticks,
         &mut scratch,
         &mut out,
     );

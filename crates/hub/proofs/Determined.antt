@@ -1,12 +1,15 @@
--- Any two answers that the contract of `act` allows are equal, with the states and the answer buffer afterwards.
+-- Any two answers that the contract of `act` allows are equal, with the states and the answer buffer afterwards; and any two of `judge`.
 use Prim.Native.Nat.{ℕ}
 use mathlib.Core.Path.{_≡_, sym, _∙_, ap}
 use mathlib.Core.List.{List}
 use Rattle.octets.specs.declared.Written.{Written}
 use Rattle.octets.specs.Told.{writtenTold}
 use Rattle.octets.proofs.Told.{written-told-injective}
+use Rattle.asks.specs.declared.Verdict.{Verdict}
+use Rattle.asks.specs.Told.{verdictTold}
+use Rattle.asks.proofs.Determined.{verdict-told-injective}
 use Rattle.hub.specs.Tables.{Tables}
-use Rattle.hub.specs.Acts.{After, after, actOf}
+use Rattle.hub.specs.Acts.{After, after, judgedOf, actOf}
 
 -- of one call, for any tables, sender, message and buffer
 pub act-determined : (T : Tables) (sender : ℕ) (m buffer : List ℕ) (r s : Written) (states₁ states₂ buffer₁ buffer₂ : List ℕ)
@@ -19,3 +22,7 @@ act-determined T sender m buffer r s states₁ states₂ buffer₁ buffer₂ p q
       ap (λ (x : After). x .states) e,
       ap (λ (x : After). x .buffer) e,
     )
+
+-- of one message that is judged
+pub judge-determined : (T : Tables) (sender : ℕ) (m : List ℕ) (r s : Verdict) → verdictTold r ≡ judgedOf T sender m → verdictTold s ≡ judgedOf T sender m → r ≡ s
+judge-determined T sender m r s p q = verdict-told-injective r s (p ∙ sym q)

@@ -265,8 +265,8 @@ fn permit(states: &[u8], owners: &[u8], helpers: &[u8], sender: u32, ask: Ask) -
     Verdict::Granted(ask)
 }
 
-// All that is looked at before the answer: 16, the reader's, 17, 14, 18, 19, 22, 20, 21.
-fn judge(states: &[u8], owners: &[u8], helpers: &[u8], sender: u32, message: &[u8]) -> Verdict
+// What a message asks and is permitted, before its answer is looked at, or its refusal: 16, the reader's, 17, 14, 18, 19, 22, 20, 21.
+pub fn judge(states: &[u8], owners: &[u8], helpers: &[u8], sender: u32, message: &[u8]) -> Verdict
     ensures { λ r. ⌜ verdictTold r ≡ judgedOf (tables (now (states .entry)) (now (owners .entry)) (now (helpers .entry))) sender (now (message .entry)) ⌝ }
 {
     if states.len() != CIRCUITS {

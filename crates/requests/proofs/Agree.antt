@@ -257,9 +257,9 @@ module _ (line : List ℕ) (at : ℕ) (h : at ≤ length line) where
       go true lost e ih other = other ∙ ap (λ y. orElse y (asking i) (askedBy fs (suc i) (take at line) (restAt line at))) e
 
 -- for every line, where the scratch has room for the octets of a line
-pub request-says : (line scratch : List ℕ) → 4168 ≤ length scratch → saysOf (requestOf line scratch) ≡ askedOf line
+pub request-says : (line scratch : List ℕ) → 41032 ≤ length scratch → saysOf (requestOf line scratch) ≡ askedOf line
 unfolding requestOf askedOf askedByTable
-request-says line scratch s = go (ltb 8192 (length line)) refl
+request-says line scratch s = go (ltb 81920 (length line)) refl
   where
     words : firstForm forms 0 line (wordEnd line 0) scratch ≡ firstForm forms 0 line (wordLength line) scratch
     words = let e : wordEnd line 0 ≡ wordLength line = omega arith in rw e refl
@@ -267,14 +267,14 @@ request-says line scratch s = go (ltb 8192 (length line)) refl
     asked : askedByTable (wordsOf line) ≡ askedBy forms 0 (take (wordLength line) line) (restAt line (wordLength line))
     asked = ap askedByTable (words-first line)
 
-    go : (t : Bool) → ltb 8192 (length line) ≡ t → saysOf (if t then taken bad scratch else firstForm forms 0 line (wordEnd line 0) scratch) ≡ (if t then nothing else askedByTable (wordsOf line))
+    go : (t : Bool) → ltb 81920 (length line) ≡ t → saysOf (if t then taken bad scratch else firstForm forms 0 line (wordEnd line 0) scratch) ≡ (if t then nothing else askedByTable (wordsOf line))
     go true e = refl
     go false e =
         ap saysOf words
-        ∙ rows-say line (wordLength line) (omega (arith, word-within line 0 (omega arith))) forms 0 scratch refl (omega arith) (omega (arith, ltb-false 8192 (length line) e))
+        ∙ rows-say line (wordLength line) (omega (arith, word-within line 0 (omega arith))) forms 0 scratch refl (omega arith) (omega (arith, ltb-false 81920 (length line) e))
         ∙ sym asked
 
 -- a line that is too long asks nothing
-pub request-long : (line : List ℕ) → 8192 < length line → askedOf line ≡ nothing
+pub request-long : (line : List ℕ) → 81920 < length line → askedOf line ≡ nothing
 unfolding askedOf
 request-long line h = rw (lt-ltb _ _ h) refl

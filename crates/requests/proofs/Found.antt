@@ -27,12 +27,12 @@ unfolding keyOf digitsOf lettersAll letterOf
 rows-paired = refl
 
 -- a line that is too long
-pub asked-nothing : (line scratch : List ℕ) → 8192 < length line → taken bad scratch ≡ requestOf line scratch
+pub asked-nothing : (line scratch : List ℕ) → 81920 < length line → taken bad scratch ≡ requestOf line scratch
 unfolding requestOf
 asked-nothing line scratch h = rw (lt-ltb _ _ h) refl
 
 -- another, by the rows
-asked-by : (line scratch : List ℕ) → length line ≤ 8192 → firstForm forms 0 line (wordEnd line 0) scratch ≡ requestOf line scratch
+asked-by : (line scratch : List ℕ) → length line ≤ 81920 → firstForm forms 0 line (wordEnd line 0) scratch ≡ requestOf line scratch
 unfolding requestOf
 asked-by line scratch h = rw (le-ltb _ _ h) refl
 
@@ -49,7 +49,7 @@ tried-next : (which : ℕ) (x : Found (List Field)) (left : List ℕ) (rest : Li
 tried-next which (found fs) left rest q now w e n = absurd (w (sym (ap (λ (t : Asking). t .request .which) e) ∙ n))
 tried-next which lost left rest q now w e n = ap rest (ap (λ (t : Asking). t .left) e)
 
-module _ (line scratch : List ℕ) (end key : ℕ) (r : Row) (h : length line ≤ 8192) (e : end ≡ wordEnd line 0) (k : key ≡ keyOf (take end line)) (q : r ≡ rowIn forms 0 key) where
+module _ (line scratch : List ℕ) (end key : ℕ) (r : Row) (h : length line ≤ 81920) (e : end ≡ wordEnd line 0) (k : key ≡ keyOf (take end line)) (q : r ≡ rowIn forms 0 key) where
   by-row : byRow line end scratch r ≡ requestOf line scratch
   by-row = ap (λ (x : Row). byRow line end scratch x) (q ∙ ap (λ (x : ℕ). rowIn forms 0 x) k) ∙ row-first line end scratch forms 0 rows-keyed rows-paired (omega arith) ∙ ap (λ (x : ℕ). firstForm forms 0 line x scratch) e ∙ asked-by line scratch h
 

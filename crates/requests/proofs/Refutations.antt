@@ -6,7 +6,7 @@ use Rattle.words.specs.Digits.{valueOf}
 use Rattle.words.specs.Words.{same, digitsFrom, numberOf, allDigits, octetOf, areOctets, pairsOf, octetsOf}
 use Rattle.requests.specs.Kinds.{fieldSays}
 use Rattle.requests.specs.Table.{mostOf, kindOf}
-use Rattle.requests.specs.Rows.{FIND, DIAL, ROWS, VELOCITY-LONG, TOTALS}
+use Rattle.requests.specs.Rows.{FIND, DIAL, ROWS, VELOCITY-LONG, TOTALS, PLAN}
 use Rattle.requests.specs.Words.{lettered, wordsOf, wordsSay, asking, nothing, askedBy, askedByTable, askedOf}
 
 -- a sender of 256, which a circuit may be
@@ -83,3 +83,12 @@ bare-asked = refl
 pub bare-left-refuted : askedOf (said "totals 0") ≡ nothing
 unfolding askedOf askedByTable askedBy wordsOf lettered same wordsSay
 bare-left-refuted = refl
+
+-- a plan may have nine octets for each circuit, and no more
+pub plan-room-asked : askedOf (said "plan 7 2 36864") ≡ asking PLAN (fieldSays 7 [] ∷ fieldSays 2 [] ∷ fieldSays 36864 [] ∷ [])
+unfolding askedOf askedByTable askedBy wordsOf lettered same wordsSay kindOf mostOf numberOf digitsFrom valueOf
+plan-room-asked = refl
+
+pub plan-room-refuted : askedOf (said "plan 7 2 36865") ≡ nothing
+unfolding askedOf askedByTable askedBy wordsOf lettered same wordsSay kindOf mostOf numberOf digitsFrom valueOf
+plan-room-refuted = refl

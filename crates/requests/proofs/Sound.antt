@@ -1,7 +1,7 @@
 -- What every request keeps to, by the kinds of its row.
 use Prim.Native.Nat.{ℕ, zero, suc, _+_, _-_, _≤_}
 use mathlib.Core.Path.{_≡_, refl, sym, _∙_, ap}
-use mathlib.Core.Bool.{Bool, true, false}
+use mathlib.Core.Bool.{Bool, true, false, false≢true}
 use mathlib.Core.List.{List, [], _∷_, _++_, map}
 use mathlib.Core.Logic.{⊎-elim}
 use native.Mathlib.Omega.{arith}
@@ -16,7 +16,8 @@ use Rattle.words.specs.Words.{same, numberOf, octetOf, areOctets}
 use Rattle.words.proofs.Bounds.{number-most, octet-most}
 use Rattle.words.proofs.Into.{octets-most}
 use Rattle.requests.specs.Kinds.{Kind, aNumber, aLast, anOctet, someOctets, aWord, FieldSays, unsaid, Found, found, lost, notBelow, numberSays, meaning, leading, onward, orElse}
-use Rattle.requests.specs.Table.{Form, forms, kindsOf, kindsAt, kindOf, mostOf, letter, octetsMost, circuitMost}
+use Rattle.requests.specs.Table.{Form, forms, kindsOf, kindsAt, kindOf, mostOf, letter, octetsMost, planMost, circuitMost}
+use Rattle.requests.specs.Rows.{CHECK}
 use Rattle.requests.specs.Words.{wordsOf, wordsSay, Asked, asks, nothing, asking, askedBy, askedByTable, askedOf, octetsAt, Keeps, Kept, SoundRequest}
 
 is-not : {v : ℕ} → Not ≡ Is v → ⊥
@@ -118,7 +119,7 @@ rows-sound all name ws (f ∷ fs) i k = go (same name (f .word)) (wordsSay (kind
 -- every line
 pub sound : (line : List ℕ) → SoundRequest (askedOf line)
 unfolding askedOf askedByTable
-sound line = go (ltb 8192 (length line)) (wordsOf line)
+sound line = go (ltb 81920 (length line)) (wordsOf line)
   where
     same-sound : (a : Asked) → SoundIn forms a → SoundRequest a
     same-sound (asks which gs) s = s
@@ -129,65 +130,88 @@ sound line = go (ltb 8192 (length line)) (wordsOf line)
     go false [] = tt
     go false (name ∷ ws) = same-sound (askedBy forms 0 name ws) (rows-sound forms name ws forms 0 (suffix-all forms))
 
--- no kind of field has more octets than a field may
-kind-short : (l before : ℕ) (g : FieldSays) → Keeps (kindOf l) before g → length (g .octets) ≤ octetsMost
-unfolding kindOf
-kind-short l before g = go (eqb l (letter "o")) (eqb l (letter "s")) (eqb l (letter "w")) (eqb l (letter "l"))
-  where
-    none : g .octets ≡ [] → length (g .octets) ≤ octetsMost
-    none e = omega (arith, ap length e)
+-- the octets of a field, at the most: of a plan, and of any other
+abbrev pub octetsIn : Bool → ℕ
+octetsIn plan = if plan then planMost else octetsMost
 
-    go : (o s w t : Bool) → Keeps (if o then anOctet else if s then someOctets octetsMost else if w then aWord else if t then aLast circuitMost else aNumber (mostOf l)) before g → length (g .octets) ≤ octetsMost
-    go true s w t h = none (h .1)
-    go false true w t h = h
-    go false false true t h = omega (arith, h)
-    go false false false true h = none (h .2)
-    go false false false false h = none (h .1)
+few-enough : (n : ℕ) (q : Bool) → n ≤ octetsMost → n ≤ octetsIn q
+few-enough n true h = omega arith
+few-enough n false h = h
+
+-- no kind of field has more octets than a field may
+kind-short : (l before : ℕ) (g : FieldSays) → Keeps (kindOf l) before g → length (g .octets) ≤ octetsIn (eqb l (letter "q"))
+unfolding kindOf
+kind-short l before g = go (eqb l (letter "o")) (eqb l (letter "s")) (eqb l (letter "q")) (eqb l (letter "w")) (eqb l (letter "l"))
+  where
+    none : (q : Bool) → g .octets ≡ [] → length (g .octets) ≤ octetsIn q
+    none q e = few-enough (length (g .octets)) q (omega (arith, ap length e))
+
+    go : (o s q w t : Bool) → Keeps (if o then anOctet else if s then someOctets octetsMost else if q then someOctets planMost else if w then aWord else if t then aLast circuitMost else aNumber (mostOf l)) before g → length (g .octets) ≤ octetsIn q
+    go true s q w t h = none q (h .1)
+    go false true q w t h = few-enough (length (g .octets)) q h
+    go false false true w t h = h
+    go false false false true t h = omega (arith, h)
+    go false false false false true h = none false (h .2)
+    go false false false false false h = none false (h .1)
 
 -- no field has more octets than it may
-abbrev ShortAll : List FieldSays → Type 0
-ShortAll gs = (i : ℕ) → length (octetsAt gs i) ≤ octetsMost
+abbrev ShortAll : ℕ → List FieldSays → Type 0
+ShortAll most gs = (i : ℕ) → length (octetsAt gs i) ≤ most
 
-short-none : (n : ℕ) → ShortAll (replicate n unsaid)
-short-none zero zero = omega arith
-short-none zero (suc i) = omega arith
-short-none (suc n) zero = omega arith
-short-none (suc n) (suc i) = short-none n i
+short-none : (most n : ℕ) → ShortAll most (replicate n unsaid)
+short-none most zero zero = omega arith
+short-none most zero (suc i) = omega arith
+short-none most (suc n) zero = omega arith
+short-none most (suc n) (suc i) = short-none most n i
 
-short-said : (pad : List FieldSays) → ShortAll pad → (ls : List ℕ) (before : ℕ) (ws : List (List ℕ)) (l : List FieldSays) → wordsSay (map kindOf ls) before ws ≡ found l → ShortAll (l ++ pad)
+-- whether the fields of a row have so many octets at the most, by their letters
+abbrev lettersWithin : ℕ → List ℕ → Bool
+lettersWithin most [] = true
+lettersWithin most (c ∷ cs) = if ltb most (octetsIn (eqb c (letter "q"))) then false else lettersWithin most cs
+
+short-said : (most : ℕ) (pad : List FieldSays) → ShortAll most pad → (ls : List ℕ) → lettersWithin most ls ≡ true → (before : ℕ) (ws : List (List ℕ)) (l : List FieldSays) → wordsSay (map kindOf ls) before ws ≡ found l → ShortAll most (l ++ pad)
 unfolding wordsSay
-short-said pad p [] before [] l e = let s : [] ≡ l = found-same e in let t : l ++ pad ≡ pad = rw (← s) refl in rw t p
-short-said pad p [] before (w ∷ ws) l e = absurd (found-not e)
-short-said pad p (c ∷ cs) before ws l e =
+short-said most pad p [] n before [] l e = let s : [] ≡ l = found-same e in let t : l ++ pad ≡ pad = rw (← s) refl in rw t p
+short-said most pad p [] n before (w ∷ ws) l e = absurd (found-not e)
+short-said most pad p (c ∷ cs) n before ws l e =
     let a = apart (kindOf c) (map kindOf cs) before ws l e in
     let b = a .2 in
-    rw (b .4) (more (b .0) (b .1) (kind-short c before (b .0) (keeps (kindOf c) before (a .0) (b .0) (b .2))) (short-said pad p cs (b .0 .value) (a .1) (b .1) (b .3)))
+    ⊎-elim (λ x. absurd (false≢true (x .1)))
+    (λ x. rw (b .4) (more (b .0) (b .1) (omega (arith, kind-short c before (b .0) (keeps (kindOf c) before (a .0) (b .0) (b .2)), ltb-false most (octetsIn (eqb c (letter "q"))) (x .0))) (short-said most pad p cs (x .1) (b .0 .value) (a .1) (b .1) (b .3))))
+    (chosen (ltb most (octetsIn (eqb c (letter "q")))) n)
   where
-    more : (g : FieldSays) (gs : List FieldSays) → length (g .octets) ≤ octetsMost → ShortAll (gs ++ pad) → ShortAll ((g ∷ gs) ++ pad)
+    more : (g : FieldSays) (gs : List FieldSays) → length (g .octets) ≤ most → ShortAll most (gs ++ pad) → ShortAll most ((g ∷ gs) ++ pad)
     more g gs h r zero = h
     more g gs h r (suc i) = r i
 
--- what is asked has no field with more octets than it may
+-- what is asked has no field with more octets than it may: a plan's in `check`, and 1024 in every other request
 abbrev pub Short : Asked → Type 0
-Short (asks which gs) = (i : ℕ) → length (octetsAt gs i) ≤ octetsMost
+Short (asks which gs) = (i : ℕ) → length (octetsAt gs i) ≤ octetsIn (eqb which CHECK)
 Short nothing = Unit {0}
 
-rows-short : (name : List ℕ) (ws : List (List ℕ)) (fs : List Form) (i : ℕ) → Short (askedBy fs i name ws)
+-- whether the fields of the rows from row i on have that many at the most
+abbrev rowsWithin : List Form → ℕ → Bool
+rowsWithin [] i = true
+rowsWithin (f ∷ fs) i = if lettersWithin (octetsIn (eqb i CHECK)) (f .letters) then rowsWithin fs (suc i) else false
+
+rows-short : (name : List ℕ) (ws : List (List ℕ)) (fs : List Form) (i : ℕ) → rowsWithin fs i ≡ true → Short (askedBy fs i name ws)
 unfolding askedBy
-rows-short name ws [] i = tt
-rows-short name ws (f ∷ fs) i = go (same name (f .word)) (wordsSay (kindsOf f) 0 ws) refl (rows-short name ws fs (suc i))
+rows-short name ws [] i n = tt
+rows-short name ws (f ∷ fs) i n =
+    ⊎-elim (λ x. go (x .0) (same name (f .word)) (wordsSay (kindsOf f) 0 ws) refl (rows-short name ws fs (suc i) (x .1))) (λ x. absurd (false≢true (x .1)))
+    (chosen (lettersWithin (octetsIn (eqb i CHECK)) (f .letters)) n)
   where
-    go : (t : Bool) (x : Found (List FieldSays)) → wordsSay (kindsOf f) 0 ws ≡ x → Short (askedBy fs (suc i) name ws) → Short (if t then orElse x (asking i) (askedBy fs (suc i) name ws) else askedBy fs (suc i) name ws)
-    go false x e ih = ih
-    go true lost e ih = ih
-    go true (found l) e ih = short-said (replicate (8 - length l) unsaid) (short-none (8 - length l)) (f .letters) 0 ws l e
+    go : lettersWithin (octetsIn (eqb i CHECK)) (f .letters) ≡ true → (t : Bool) (x : Found (List FieldSays)) → wordsSay (kindsOf f) 0 ws ≡ x → Short (askedBy fs (suc i) name ws) → Short (if t then orElse x (asking i) (askedBy fs (suc i) name ws) else askedBy fs (suc i) name ws)
+    go k false x e ih = ih
+    go k true lost e ih = ih
+    go k true (found l) e ih = short-said (octetsIn (eqb i CHECK)) (replicate (8 - length l) unsaid) (short-none (octetsIn (eqb i CHECK)) (8 - length l)) (f .letters) k 0 ws l e
 
 -- of every line
 pub short : (line : List ℕ) → Short (askedOf line)
 unfolding askedOf askedByTable
-short line = go (ltb 8192 (length line)) (wordsOf line)
+short line = go (ltb 81920 (length line)) (wordsOf line)
   where
     go : (t : Bool) (ws : List (List ℕ)) → Short (if t then nothing else askedByTable ws)
     go true ws = tt
     go false [] = tt
-    go false (name ∷ ws) = rows-short name ws forms 0
+    go false (name ∷ ws) = rows-short name ws forms 0 refl

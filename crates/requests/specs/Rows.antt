@@ -133,6 +133,18 @@ TOTAL = 31
 abbrev pub REBUILD : ℕ
 REBUILD = 32
 
+-- tick FIRST LAST OCTET
+abbrev pub TICK : ℕ
+TICK = 33
+
+-- plan SENDER KIND ROOM
+abbrev pub PLAN : ℕ
+PLAN = 34
+
+-- check SENDER KIND PLAN
+abbrev pub CHECK : ℕ
+CHECK = 35
+
 -- a line that is no request
 abbrev pub BAD : ℕ
 BAD = 255

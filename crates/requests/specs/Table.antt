@@ -10,7 +10,7 @@ use Rattle.requests.specs.Kinds.{Kind, aNumber, aLast, anOctet, someOcte
 
 -- the octets of a line, at the most
 abbrev pub lineMost : ℕ
-lineMost = 8192
+lineMost = 81920
 
 -- the fields of a request, at the most
 abbrev pub fieldsMost : ℕ
@@ -40,15 +40,19 @@ codeMost = 65535
 abbrev pub roomMost : ℕ
 roomMost = 1024
 
--- the octets of one field, at the most
+-- the octets of one field, at the most, where it is no plan
 abbrev pub octetsMost : ℕ
 octetsMost = 1024
+
+-- the octets of a plan, at the most: nine for each circuit
+abbrev pub planMost : ℕ
+planMost = 36864
 
 -- a letter, as its octet
 abbrev pub letter : String → ℕ
 letter text = getD (said text) 0 0
 
--- the limit of a number by its letter: c a circuit, v a sender, a state, a total or a vertical code, b a block of circuits, h a bearing's or a speed's code, r room; any other (n) any number
+-- the limit of a number by its letter: c a circuit, v a sender, a state, a total or a vertical code, b a block of circuits, h a bearing's or a speed's code, r room, p room for a plan; any other (n) any number
 unfoldable pub mostOf : ℕ → ℕ
 mostOf l =
     if eqb l (letter "c") then circuitMost
@@ -56,13 +60,15 @@ mostOf l =
     else if eqb l (letter "b") then blockMost
     else if eqb l (letter "h") then codeMost
     else if eqb l (letter "r") then roomMost
+    else if eqb l (letter "p") then planMost
     else anyMost
 
--- the kind of a field by its letter: o an octet in two hexadecimal digits, s octets, w a word as it is typed, l the last circuit of a span; any other a number
+-- the kind of a field by its letter: o an octet in two hexadecimal digits, s octets, q those of a plan, w a word as it is typed, l the last circuit of a span; any other a number
 unfoldable pub kindOf : ℕ → Kind
 kindOf l =
     if eqb l (letter "o") then anOctet
     else if eqb l (letter "s") then someOctets octetsMost
+    else if eqb l (letter "q") then someOctets planMost
     else if eqb l (letter "w") then aWord
     else if eqb l (letter "l") then aLast circuitMost
     else aNumber (mostOf l)
@@ -112,6 +118,9 @@ forms =
     ∷ row "totals" ""
     ∷ row "total" "bv"
     ∷ row "rebuild" ""
+    ∷ row "tick" "clv"
+    ∷ row "plan" "nnp"
+    ∷ row "check" "nnq"
     ∷ []
 
 -- the kinds of a form's fields

@@ -122,11 +122,20 @@ pub const TOTAL: usize = 31;
 // rebuild
 pub const REBUILD: usize = 32;
 
+// tick FIRST LAST OCTET
+pub const TICK: usize = 33;
+
+// plan SENDER KIND ROOM
+pub const PLAN: usize = 34;
+
+// check SENDER KIND PLAN
+pub const CHECK: usize = 35;
+
 // A line that is no request.
 pub const BAD: usize = 255;
 
 // The octets of a line, at the most.
-const LINE_MOST: usize = 8192;
+const LINE_MOST: usize = 81920;
 
 // The fields of a request, at the most.
 const FIELDS_MOST: usize = 8;
@@ -149,8 +158,11 @@ const CODE_MOST: u32 = 65535;
 // The octets of answer buffer that a line may lend, at the most.
 const ROOM_MOST: u32 = 1024;
 
-// The octets of one field, at the most.
+// The octets of one field, at the most, where it is no plan.
 const OCTETS_MOST: u32 = 1024;
+
+// The octets of a plan, at the most: nine for each circuit.
+const PLAN_MOST: u32 = 36864;
 
 // The octets of a word that is kept as it is typed, at the most.
 const TYPED_MOST: usize = 18;
@@ -205,6 +217,9 @@ fn most(letter: u8) -> u32
     if letter == b'r' {
         return ROOM_MOST;
     }
+    if letter == b'p' {
+        return PLAN_MOST;
+    }
     ANY_MOST
 }
 
@@ -254,6 +269,9 @@ fn value_of(letter: u8, before: u32, word: &[u8], scratch: &mut [u8], next: usiz
     if letter == b's' {
         return words::octets_into(word, OCTETS_MOST, scratch, next);
     }
+    if letter == b'q' {
+        return words::octets_into(word, PLAN_MOST, scratch, next);
+    }
     if letter == b'w' {
         return keep_word(word, scratch, next);
     }
@@ -279,6 +297,9 @@ fn field_of(letter: u8, value: u32, next: usize) -> Field
     ensures { λ r. ⌜ (r ≡ placed (kindOf letter) value next) × (r .count ≤ 4294967295) ⌝ }
 {
     if letter == b's' {
+        return stored(value, next);
+    }
+    if letter == b'q' {
         return stored(value, next);
     }
     if letter == b'w' {
@@ -561,6 +582,24 @@ fn row_of(key: u64) -> Row
             letters: 0,
             longer: 0,
         },
+        // tick clv
+        244096 => Row {
+            which: TICK,
+            letters: 0x766c63,
+            longer: 0,
+        },
+        // plan nnp
+        308464 => Row {
+            which: PLAN,
+            letters: 0x706e6e,
+            longer: 0,
+        },
+        // check nnq
+        6831219 => Row {
+            which: CHECK,
+            letters: 0x716e6e,
+            longer: 0,
+        },
         _ => Row {
             which: BAD,
             letters: 0,
@@ -569,7 +608,7 @@ fn row_of(key: u64) -> Row
     }
 }
 
-// What a line asks. A line that is over 8192 octets long, or that no form fits, asks nothing; so does one whose octets the scratch has no room for, which 4168 octets always have.
+// What a line asks. A line that is over 81920 octets long, or that no form fits, asks nothing; so does one whose octets the scratch has no room for, which 41032 octets always have.
 pub fn request_of(line: &[u8], scratch: &mut [u8]) -> Request
     ensures { λ r. ⌜ taken r (now (scratch .exit)) ≡ requestOf (now (line .entry)) (now (scratch .entry)) ⌝ }
 {

@@ -18,7 +18,7 @@ use Rattle.requests.specs.Rows.{OWN, HELPER, SET}
 use Rattle.requests.specs.Words.{numberAt, octetAt, octetsAt}
 use Rattle.lines.specs.Lines.{shown, faultLine, lent}
 
--- all that the desk holds: the hub's tables, and the totals
+-- the hub's tables, and the totals
 pub record DeskTables : Type 0 where
   pub tables : Tables
   pub totals : List ℕ

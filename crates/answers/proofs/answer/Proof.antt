@@ -1,6 +1,6 @@
 use mathlib.Core.Path.{refl, _∙_, ap}
-use Rattle.table_lines.proofs.Leaving.{left-same}
 use Rattle.answers.specs.Turns.{withLineEnd}
+use Rattle.answers.proofs.Determined.{desk-left-same}
 use borrow.Author.Needs.{needs}
 use Rattle.answers.proofs.answer.Statement.{statement}
 use Rattle.answers.proofs.answer.Tie as tie
@@ -29,8 +29,11 @@ same-length-5 c = search needs
 same-length-6 : tie.Need-same-length-6
 same-length-6 c = search needs
 
+same-length-7 : tie.Need-same-length-7
+same-length-7 c = search needs
+
 returns : tie.Need-returns
-returns c = left-same refl (c .before .before .put-octet .ensures) ∙ ap withLineEnd (c .before .before .before .before .before .before .before .before .before .before .before .before .before .before .before .before .answer-line .ensures)
+returns c = desk-left-same refl (c .before .before .put-octet .ensures) ∙ ap withLineEnd (c .before .before .before .before .before .before .before .before .before .before .before .before .before .before .before .before .before .before .answer-line .ensures)
 
 pub answer-spec : {M : Type 1} → statement M
 answer-spec =
@@ -44,4 +47,5 @@ answer-spec =
     same-length-4
     same-length-5
     same-length-6
+    same-length-7
     returns)

@@ -6,11 +6,11 @@ use Rattle.desk.proofs.take_in.Statement.{statement}
 use Rattle.desk.proofs.take_in.Tie as tie
 
 abbrev Inv-loop : tie.InvT-loop
-Inv-loop chunk line₀ held states₀ owners₀ helpers₀ totals₀ scratch₀ out₀ written₀ count₀ i₀ line states owners helpers totals scratch out written count i =
-    (i ≤ length chunk) × (length line ≡ length line₀) × (length states ≡ length states₀) × (length owners ≡ length owners₀) × (length helpers ≡ length helpers₀) × (length totals ≡ length totals₀) × (length scratch ≡ length scratch₀) × (length out ≡ length out₀)
+Inv-loop chunk line₀ held states₀ owners₀ helpers₀ totals₀ ticks₀ scratch₀ out₀ written₀ count₀ i₀ line states owners helpers totals ticks scratch out written count i =
+    (i ≤ length chunk) × (length line ≡ length line₀) × (length states ≡ length states₀) × (length owners ≡ length owners₀) × (length helpers ≡ length helpers₀) × (length totals ≡ length totals₀) × (length ticks ≡ length ticks₀) × (length scratch ≡ length scratch₀) × (length out ≡ length out₀)
 
 abbrev μ-loop : tie.MeasureT-loop
-μ-loop chunk line₀ held states₀ owners₀ helpers₀ totals₀ scratch₀ out₀ written₀ count₀ i₀ line states owners helpers totals scratch out written count i =
+μ-loop chunk line₀ held states₀ owners₀ helpers₀ totals₀ ticks₀ scratch₀ out₀ written₀ count₀ i₀ line states owners helpers totals ticks scratch out written count i =
     length chunk - i
 
 loop-holds : tie.Need-loop-holds Inv-loop μ-loop
@@ -37,6 +37,9 @@ same-length-6 c = search needs
 same-length-7 : tie.Need-same-length-7 Inv-loop μ-loop
 same-length-7 c = search needs
 
+same-length-8 : tie.Need-same-length-8 Inv-loop μ-loop
+same-length-8 c = search needs
+
 returns : tie.Need-returns Inv-loop μ-loop
 returns c = search needs
 
@@ -54,9 +57,6 @@ loop-less c = search needs
 
 loop-again : tie.Need-loop-again Inv-loop μ-loop
 loop-again c = search needs
-
-same-length-8 : tie.Need-same-length-8 Inv-loop μ-loop
-same-length-8 c = search needs
 
 same-length-9 : tie.Need-same-length-9 Inv-loop μ-loop
 same-length-9 c = search needs
@@ -76,6 +76,12 @@ same-length-13 c = search needs
 same-length-14 : tie.Need-same-length-14 Inv-loop μ-loop
 same-length-14 c = search needs
 
+same-length-15 : tie.Need-same-length-15 Inv-loop μ-loop
+same-length-15 c = search needs
+
+same-length-16 : tie.Need-same-length-16 Inv-loop μ-loop
+same-length-16 c = search needs
+
 returns-2 : tie.Need-returns-2 Inv-loop μ-loop
 returns-2 c = search needs
 
@@ -93,17 +99,19 @@ take-in-spec =
     same-length-5
     same-length-6
     same-length-7
+    same-length-8
     returns
     shared-slice-read-take-octet
     take-octet-requires
     add-i
     loop-less
     loop-again
-    same-length-8
     same-length-9
     same-length-10
     same-length-11
     same-length-12
     same-length-13
     same-length-14
+    same-length-15
+    same-length-16
     returns-2)

@@ -27,5 +27,9 @@ returns-6 : tie.Need-returns-6
 unfolding mostOf
 returns-6 c = search tests
 
+returns-7 : tie.Need-returns-7
+unfolding mostOf
+returns-7 c = search tests
+
 pub most-spec : {M : Type 1} → statement M
-most-spec = tie.close (tie.spec returns returns-2 returns-3 returns-4 returns-5 returns-6)
+most-spec = tie.close (tie.spec returns returns-2 returns-3 returns-4 returns-5 returns-6 returns-7)

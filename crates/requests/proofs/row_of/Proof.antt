@@ -130,8 +130,20 @@ unfolding rowIn keyOf digitsOf lettersAll letterOf
 returns-31 c = rw (c .match .keys31)
 
 returns-32 : tie.Need-returns-32
+unfolding rowIn keyOf digitsOf lettersAll letterOf
+returns-32 c = rw (c .match .keys32)
+
+returns-33 : tie.Need-returns-33
+unfolding rowIn keyOf digitsOf lettersAll letterOf
+returns-33 c = rw (c .match .keys33)
+
+returns-34 : tie.Need-returns-34
+unfolding rowIn keyOf digitsOf lettersAll letterOf
+returns-34 c = rw (c .match .keys34)
+
+returns-35 : tie.Need-returns-35
 unfolding keyOf digitsOf lettersAll letterOf
-returns-32 c = row-none forms _ (c .match .rest)
+returns-35 c = row-none forms _ (c .match .rest)
 
 pub row-of-spec : {M : Type 1} → statement M
 row-of-spec =
@@ -168,4 +180,7 @@ row-of-spec =
     returns-29
     returns-30
     returns-31
-    returns-32)
+    returns-32
+    returns-33
+    returns-34
+    returns-35)

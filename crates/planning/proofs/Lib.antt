@@ -1,0 +1,10 @@
+pub mod Asked
+pub mod Bits
+pub mod Meant
+pub mod Runs
+pub mod Stuck
+pub mod Outcome
+pub mod Counts
+pub mod Puts
+pub mod Laying
+pub mod Words
