@@ -1,4 +1,4 @@
-// What the desk answers to a line: the proved libraries do the work, and the answer is put as a line into a lent buffer.
+// What the desk answers to a line. The proved libraries do the work, and the answer is written as a line into a lent buffer.
 ghost use mathlib.Core.Path.{_≡_};
 ghost use lib.ListN.{length};
 ghost use Rattle.printing.specs.Sheet.{sheet, pour};

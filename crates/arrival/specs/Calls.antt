@@ -39,7 +39,7 @@ module _ (K : Calls) where
   Has c [] = ⊥
   Has c (d ∷ ds) = (c ≡ d) ⊎ Has c ds
 
-  -- no two different parties of the list have a right on the same row
+  -- R48. no two different parties of the list have a right on the same row
   abbrev pub Separate : List (K .Call) → Type 0
   Separate cs = (c d : K .Call) → Has c cs → Has d cs → (i : ℕ) → K .holds (K .party c) i ≡ true → K .holds (K .party d) i ≡ true → K .party c ≡ K .party d
 
@@ -69,7 +69,7 @@ module _ (K : Calls) where
   abbrev pub replaced : (ℕ → List (K .Call)) → ℕ → List (K .Call) → ℕ → List (K .Call)
   replaced ls q l r = if eqb r q then l else ls r
 
-  -- a list is a merge of given lists, one for each party, that keeps each list's own order
+  -- R47. a list is a merge of given lists, one for each party, that keeps each list's own order
   abbrev pub Merged : List (K .Call) → (ℕ → List (K .Call)) → Type 0
   Merged [] ls = (q : ℕ) → ls q ≡ []
   Merged (c ∷ cs) ls = (l : List (K .Call)) × (ls (K .party c) ≡ c ∷ l) × Merged cs (replaced ls (K .party c) l)

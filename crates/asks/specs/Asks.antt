@@ -117,7 +117,7 @@ askedIn m x = actFor (x .kind) then askedFor m x
 unfoldable pub askOf : List ℕ → Answer Ask
 askOf m = readOf m then askedIn m
 
--- status bit n, low bit first, of the octets from `status` on
+-- R40. status bit n, low bit first, of the octets from `status` on
 unfoldable pub bitAt : List ℕ → ℕ → ℕ → Bool
 bitAt m status n = eqb (octet m (status + n / 8) / 2 ^ (n % 8) % 2) 1
 

@@ -1,4 +1,4 @@
--- What a message may be refused for by itself, each in the paper's words, in the paper's order: the reader's, 17, 14, 18.
+-- What a message can be refused for without looking at the tables: the reader's numbers, 17, 14, 18. Each is in the words of its rule, in the order of checking.
 use Prim.Native.Nat.{ℕ, _+_, _≤_, _<_}
 use mathlib.Core.Path.{_≡_}
 use mathlib.Core.List.{List, [], _∷_, _++_}
@@ -20,17 +20,17 @@ use Rattle.asks.specs.Asks.{rangeIn, blockKind, width, groupStatus, indi
 abbrev pub Reads : List ℕ → (Message → Type 0) → Type 0
 Reads m P = (x : Message) × WellFormed m x × P x
 
--- 17: a type the hub does not act on
+-- R28. 17: a type the hub does not act on
 abbrev pub NotActedOn : Message → Type 0
 NotActedOn x = OneOf (x .kind) acting → ⊥
 
--- GRS, CQM: contents exactly r's octet, range r from the least to 31
+-- R39, R44. GRS, CQM: contents exactly r's octet, range r from the least to 31
 pub record KeepsRange (least : ℕ) (m : List ℕ) (x : Message) : Type 0 where
   pub exact : spanSize (x .parts .first) ≡ 1
   pub above : least ≤ rangeIn m (x .parts .first)
   pub most : rangeIn m (x .parts .first) ≤ 31
 
--- CGB, CGU: low two bits of the indicator 0 or 1; range from 1 on (an octet, so to 255), then exactly r/8+1 status octets; of the circuits m to m+r at most 32 are marked
+-- R40, R41. CGB, CGU: low two bits of the indicator 0 or 1; range from 1 on (an octet, so to 255), then exactly r/8+1 status octets; of the circuits m to m+r at most 32 are marked
 pub record KeepsGroup (m : List ℕ) (x : Message) : Type 0 where
   pub kinds : blockKind (indicatorIn m x) ≤ 1
   pub least : 1 ≤ rangeIn m (x .parts .first)
@@ -44,11 +44,11 @@ BreaksRule m x =
     ⊎ ((OneOf (x .kind) (CGB ∷ CGU ∷ []) × (KeepsGroup m x → ⊥))
     ⊎ ((x .kind ≡ CQM) × (KeepsRange 0 m x → ⊥)))
 
--- the range that a message gives: the range octet of GRS, CGB, CGU and CQM, else 0
+-- R29. the range that a message gives: the range octet of GRS, CGB, CGU and CQM, else 0
 abbrev pub rangeGiven : List ℕ → Message → ℕ
 rangeGiven m x = if among (x .kind) (GRS ∷ CGB ∷ CGU ∷ CQM ∷ []) then rangeIn m (x .parts .first) else 0
 
--- 18: group passes circuit 4095
+-- R29. 18: group passes circuit 4095
 abbrev pub GroupPasses : List ℕ → Message → Type 0
 GroupPasses m x = lastCircuit < x .circuit + rangeGiven m x
 

@@ -8,7 +8,7 @@ use Rattle.isup.specs.Types.{IAM, REL, RSC, BLO, UBL, GRS, CGB, CGU, CQM}
 use Rattle.rows.specs.declared.Act.{Act}
 use Rattle.rows.specs.declared.Act.the-variants.{Seize, Release, Reset, Block, Unblock, ResetGroup, BlockGroup, UnblockGroup, Query}
 
--- the types that the hub acts on
+-- R28. the types that the hub acts on
 abbrev pub acting : List ℕ
 acting = IAM ∷ REL ∷ RSC ∷ BLO ∷ UBL ∷ GRS ∷ CGB ∷ CGU ∷ CQM ∷ []
 

@@ -10,7 +10,7 @@ use Rattle.family.specs.Family.{readIn}
 use Rattle.bicc.specs.declared.Message.{Message}
 use Rattle.bicc.specs.Table.{bicc}
 
--- octets 0 to 3, the least significant first
+-- R49. octets 0 to 3, the least significant first
 abbrev pub callCodeOf : List ℕ → ℕ
 callCodeOf m = codeIn (octets m 0 4)
 

@@ -1,4 +1,4 @@
--- The table of types: ISUP's, but for the types that the standard's list of types marks as ISUP's alone.
+-- The table of types: ISUP's, without the types that the standard marks as ISUP only.
 use Prim.Native.Nat.{ℕ}
 use mathlib.Core.List.{List, [], _∷_}
 use Rattle.octets.specs.Choice.{if_then_else_}
@@ -9,7 +9,7 @@ use Rattle.family.specs.Family.{Family}
 use Rattle.isup.specs.Types.{BLO, UBL, BLA, UBA}
 use Rattle.isup.specs.Table.{shapeOf as isupShapeOf}
 
--- the types of our table that are marked 'ISUP only' (source document 004, Table 1)
+-- R50. the types of our table that are marked 'ISUP only' (source document 004, Table 1)
 abbrev pub isupOnly : List ℕ
 isupOnly = BLO ∷ UBL ∷ BLA ∷ UBA ∷ []
 

@@ -14,7 +14,7 @@ use Rattle.bicc.specs.declared.Message.{Message}
 use Rattle.bicc.specs.Table.{callShapeOf, longestCall}
 use Rattle.bicc.specs.Read.{callCodeOf}
 
--- 5 to 270 octets, a type of the table, and its parts laid out as the type's row says
+-- R51. 5 to 270 octets, a type of the table, and its parts laid out as the type's row says
 pub record CallFormed (m : List ℕ) (x : Message) : Type 0 where
   pub shape : Shape
   pub params : List Param

@@ -1,4 +1,4 @@
-// BICC, ISUP's sibling without circuits: a call instance code of four octets, then the type and the parts as in ISUP. The 20 types, the reader and the writer.
+// BICC, ISUP's sibling without circuits: the 20 types, the reader and the writer. A message has a call instance code of four octets, then the type and the parts as in ISUP.
 ghost use mathlib.Core.Path.{_≡_};
 ghost use Prim.Native.Nat.{_≤_};
 ghost use lib.ListN.{length};

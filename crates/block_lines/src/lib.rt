@@ -1,4 +1,4 @@
-// What the desk answers to the requests that block a circuit from our side, or end that (block, unblock), and what they leave in the states and the totals.
+// What the desk answers to block and unblock, which set or end our own block on a circuit, and what they leave in the states and the totals.
 ghost use mathlib.Core.Path.{_≡_};
 ghost use mathlib.Core.List.{[]};
 ghost use Rattle.octets.specs.Told.{writtenTold};

@@ -24,7 +24,7 @@ pub record BoardAfter : Type 0 where
 abbrev pub boardAfter : Answer ℕ → List ℕ → List ℕ → List ℕ → BoardAfter
 boardAfter answer states totals buffer = record { answer = answer; states = states; totals = totals; buffer = buffer }
 
--- the totals after a call, by the rows as they are then: where it is accepted each block that holds a named circuit is counted anew, and every other total stays
+-- R56. the totals after a call, by the rows as they are then: where it is accepted each block that holds a named circuit is counted anew, and every other total stays
 abbrev pub totalsAfter : List ℕ → Answer Deed → List ℕ → List ℕ
 totalsAfter rows (accepted d) totals = recounted rows (d .first) (d .last) totals
 totalsAfter rows (refused n at) totals = totals

@@ -13,7 +13,7 @@ use Rattle.hub.specs.Names.{Names}
 use Rattle.hub.specs.Arrival.{Event, heard, ours}
 use Rattle.board.specs.Arrival.{Standings}
 
--- a message names the circuits of what it asks, where every table has its length; a desk call its circuit, up to 4095, where states and totals have theirs
+-- R74. a message names the circuits of what it asks, where every table has its length; a desk call its circuit, up to 4095, where states and totals have theirs
 abbrev pub NamesAt : List ℕ → List ℕ → Standings → Event → ℕ → Type 0
 NamesAt owners helpers s (heard sender m) i =
     (length (s .rows) ≡ 4096) × (length owners ≡ 4096) × (length helpers ≡ 4096) × (length (s .totals) ≡ 64) × Names m i

@@ -1,4 +1,4 @@
-// The hub's calls and the desk's with the totals of busy circuits kept: after an accepted call each block that holds a named circuit is counted anew.
+// The calls of the hub and of the desk, with the totals of busy circuits. After an accepted call each block that holds a named circuit is counted again.
 ghost use mathlib.Core.Path.{_≡_};
 ghost use Rattle.octets.specs.Told.{writtenTold};
 ghost use Rattle.hub.specs.Tables.{tables};

@@ -1,4 +1,4 @@
--- What is awaited of a book as it comes, by the numbers that have come.
+-- What comes next in a book whose octets come one by one, from the numbers so far.
 use Prim.Native.Nat.{ℕ, _+_, _*_}
 use mathlib.Core.List.{List}
 use Rattle.octets.specs.Octet.{octet}

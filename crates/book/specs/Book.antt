@@ -42,11 +42,11 @@ unfoldable pub entriesOctets : List Recorded → List ℕ
 entriesOctets [] = []
 entriesOctets (s ∷ ss) = headOctets s ++ (s .message ++ entriesOctets ss)
 
--- each section after its count, two octets, low first
+-- R59. each section after its count, two octets, low first
 unfoldable pub bookOctets : Book → List ℕ
 bookOctets b = word (length (b .spans)) ++ (spansOctets (b .spans) ++ (word (length (b .entries)) ++ entriesOctets (b .entries)))
 
--- from circuit `next` on, first not above last, last at most 4095, a sender from 1 in one octet
+-- R60. from circuit `next` on, first not above last, last at most 4095, a sender from 1 in one octet
 pub record GoodSpan (next : ℕ) (s : Span) : Type 0 where
   pub above : next ≤ s .first
   pub upwards : s .first ≤ s .last
@@ -59,7 +59,7 @@ abbrev pub Ascending : ℕ → List Span → Type 0
 Ascending next [] = Unit {0}
 Ascending next (s ∷ ss) = GoodSpan next s × Ascending (s .last + 1) ss
 
--- a sender in one octet, a message of at most 268
+-- R60. a sender in one octet, a message of at most 268
 pub record GoodEntry (s : Recorded) : Type 0 where
   pub one : s .sender ≤ 255
   pub short : length (s .message) ≤ 268

@@ -56,6 +56,6 @@ pub data CutOff (xs : List ℕ) : Type 0 where
   inMessage : (spans : List Span) (counted : ℕ) (before : List Recorded) (tail : List ℕ) → Ascending 0 spans → length before < counted → AllEntries before → LessThanOne tail
       → word (length spans) ++ (spansOctets spans ++ (word counted ++ (entriesOctets before ++ tail))) ≡ xs → CutOff xs
 
--- one of the four
+-- R61. one of the four
 abbrev pub Faulty : List ℕ → Type 0
 Faulty xs = CutOff xs ⊎ (LeftOver xs ⊎ (BadSpanIn xs ⊎ LongIn xs))

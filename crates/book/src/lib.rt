@@ -1,4 +1,4 @@
-// A book as it comes: what is awaited next, by the numbers that have come.
+// A book as its octets come: what comes next, from the numbers so far.
 ghost use mathlib.Core.Path.{_≡_};
 ghost use Prim.Native.Nat.{_+_, _*_, _<_};
 ghost use Rattle.book.specs.Awaits.{wantOf, spansAwait, entriesAwait, badSpan};

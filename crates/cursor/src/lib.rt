@@ -1,4 +1,4 @@
-// A cursor over the optional parameters of a message: it keeps hold of the message and of its place in it. Only the start knows the family.
+// A cursor over the optional parameters of a message. It holds the message and a place in it. Only its start depends on the family.
 ghost use mathlib.Core.Path.{_≡_};
 ghost use Rattle.layout.specs.Container.{partsOf};
 ghost use Rattle.family.specs.Family.{readIn};

@@ -13,7 +13,7 @@ use Rattle.hub.specs.Acts.{After, actOf}
 abbrev pub Rows : Type 0
 Rows = List ℕ
 
--- state 0 everywhere
+-- R62. state 0 everywhere
 unfoldable pub atFirst : Rows
 atFirst = replicate 4096 0
 

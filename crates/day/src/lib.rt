@@ -1,4 +1,4 @@
-// The tables of a day: made empty at its beginning, and a message heard by the hub and counted.
+// The tables of a day. They are empty at its start; then each message is given to the hub and counted.
 ghost use mathlib.Core.Path.{_≡_};
 ghost use mathlib.Core.List.{[]};
 ghost use Prim.Native.Nat.{_+_, _%_, _<_};

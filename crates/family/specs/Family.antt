@@ -1,4 +1,4 @@
--- A family of messages, and its reader and its writer: once over what one family has other than another.
+-- A family of messages with its reader and its writer, said once. Header, longest message and table are what differs between families.
 use Prim.Native.Nat.{ℕ}
 use mathlib.Core.List.{List}
 use lib.Dec.{ltb}
@@ -12,7 +12,7 @@ use Rattle.layout.specs.Container.{kindAt, partsOf}
 use Rattle.writing.specs.Write.{Order, writtenOf}
 use Rattle.writing.specs.Compact.{saidWith}
 
--- a family: how many octets stand before the type octet, how many octets the longest message has, and what the table says of each type octet
+-- R49, R52. a family: how many octets stand before the type octet, how many octets the longest message has, and what the table says of each type octet
 pub record Family : Type 0 where
   pub width : ℕ
   pub most : ℕ

@@ -56,6 +56,6 @@ rewriteFaults m w most r head buffer =
 abbrev pub againFaults : Family → List ℕ → List Fault
 againFaults F m = familyFaults F m ++ (fault 12 0 (CannotHold m (F .width) (F .most) (F .row (octet m (F .width)))) ∷ [])
 
--- then 13, where the lent output is too short
+-- R19. then 13, where the lent output is too short
 abbrev pub familyCompactFaults : Family → List ℕ → List ℕ → List ℕ → List Fault
 familyCompactFaults F head m buffer = againFaults F m ++ (roomFault (familyCompactIn F head m) buffer ∷ [])

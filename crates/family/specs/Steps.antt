@@ -57,7 +57,7 @@ abbrev pub Gives : List ℕ → Param → Offer → Type 0
 Gives m q (One f) = (f .name ≡ q .name) × (octets m (f .at) (f .len) ≡ q .contents)
 Gives m q Done = ⊥
 
--- the answers are those parameters in order, and done from there on
+-- R54. the answers are those parameters in order, and done from there on
 abbrev pub GivesAll : List ℕ → List Param → List Offer → Type 0
 GivesAll m qs [] = Unit {0}
 GivesAll m [] (g ∷ gs) = (g ≡ Done) × GivesAll m [] gs

@@ -55,7 +55,7 @@ acceptedFrom q o = if eqb (o .sender) q then o .taken else false
 abbrev pub refusedFrom : ℕ → Fate → Bool
 refusedFrom q o = if eqb (o .sender) q then not (o .taken) else false
 
--- a sender's four numbers, each its count over the replay
+-- R63. a sender's four numbers, each its count over the replay
 abbrev pub tallyOf : Book → ℕ → Tally
 tallyOf b q =
     tally

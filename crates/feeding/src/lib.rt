@@ -1,4 +1,4 @@
-// A book is taken in as it comes, in chunks of any sizes, and replayed.
+// A book is read as it comes, in chunks of any size, and replayed.
 ghost use mathlib.Core.Path.{_≡_};
 ghost use mathlib.Core.List.{[]};
 ghost use Prim.Native.Nat.{_+_, _-_, _<_, _≤_};

@@ -7,10 +7,10 @@ use Rattle.runs.specs.Params.{BadRun}
 use Rattle.finding.specs.FoundAt.{Lacks, RunLacks}
 use Rattle.isup.specs.Faults.{readerFaults}
 
--- no such optional parameter: a name is an octet, and neither the message nor the defaults has it
+-- R22. no such optional parameter: a name is an octet, and neither the message nor the defaults has it
 abbrev pub NoSuch : List ℕ → List ℕ → ℕ → Type 0
 NoSuch m d name = (255 < name) ⊎ (Lacks m name × RunLacks d name)
 
--- the reader's, then 11 for the defaults, then 15
+-- R22. the reader's, then 11 for the defaults, then 15
 abbrev pub findFaults : List ℕ → List ℕ → ℕ → List Fault
 findFaults m d name = readerFaults m ++ (fault 11 0 (BadRun d) ∷ fault 15 0 (NoSuch m d name) ∷ [])

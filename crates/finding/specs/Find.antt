@@ -60,7 +60,7 @@ abbrev pub stretchLength : Answer Spot → ℕ
 stretchLength (accepted s) = s .len
 stretchLength (refused n at) = 0
 
--- the companion's answer: 0 for the message, 100 for the defaults, or the refusal's number with the octet that it is about
+-- R22. the companion's answer: 0 for the message, 100 for the defaults, or the refusal's number with the octet that it is about
 abbrev pub codeOf : Answer Spot → Code
 codeOf (accepted s) = record { number = s .holder; place = 0 }
 codeOf (refused n at) = record { number = n; place = at }

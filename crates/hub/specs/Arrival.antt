@@ -24,7 +24,7 @@ pub record Call : Type 0 where
   pub asks : Event
   pub buffer : List ℕ
 
--- whose call it is: a message is its sender's, and a desk call is the owner's of its circuit; party 0 where nobody owns it or it is above 4095
+-- R47. whose call it is: a message is its sender's, and a desk call is the owner's of its circuit; party 0 where nobody owns it or it is above 4095
 abbrev pub partyOf : List ℕ → Event → ℕ
 partyOf owners (heard sender message) = sender
 partyOf owners (ours circuit set) = if ltb 4095 circuit then 0 else octet owners circuit
@@ -51,7 +51,7 @@ holdsOf owners helpers q i =
     else if eqb q 0 then false
     else eqb (octet helpers i) q
 
--- the same as a statement: a party owns the circuit (party 0 where nobody does), or helps it
+-- R48. the same as a statement: a party owns the circuit (party 0 where nobody does), or helps it
 abbrev pub RightOf : List ℕ → List ℕ → ℕ → ℕ → Type 0
 RightOf owners helpers q i = (octet owners i ≡ q) ⊎ ((octet helpers i ≡ q) × (q ≡ 0 → ⊥))
 

@@ -1,4 +1,4 @@
--- What a call does, told with the circuits that its message names: for whoever keeps something beside the rows.
+-- What a call does, with the circuits that its message names. Crates that keep more than the rows, such as totals, use it.
 use Prim.Native.Nat.{ℕ, _+_}
 use mathlib.Core.List.{List}
 use Rattle.octets.specs.Answer.{Answer, accepted, refused}

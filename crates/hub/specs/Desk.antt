@@ -38,7 +38,7 @@ deskCarried states set buffer (refused n at) = after (refused n at) states buffe
 unfoldable pub deskOf : List ℕ → ℕ → Bool → List ℕ → After
 deskOf states circuit set buffer = deskCarried states set buffer (deskGrant states circuit (length buffer))
 
--- what a desk call may be refused for, in the paper's order
+-- R46. what a desk call may be refused for, in the paper's order
 abbrev pub deskFaults : List ℕ → ℕ → ℕ → List Fault
 deskFaults states circuit room =
     fault 16 0 (length states ≡ 4096 → ⊥)

@@ -1,4 +1,4 @@
--- The hub's faults, each in the paper's words, in the paper's order: 16, the reader's, 17, 14, 18, 19, 22, 20, 21, 13.
+-- R34. The hub's faults, each in the words of its rule, in the order of checking: 16, the reader's, 17, 14, 18, 19, 22, 20, 21, 13.
 use Prim.Native.Nat.{ℕ, _+_, _≤_, _<_}
 use mathlib.Core.Path.{_≡_}
 use mathlib.Core.List.{List, [], _∷_, _++_}
@@ -16,31 +16,31 @@ use Rattle.asks.specs.Asks.{blockKind, indicatorIn, width}
 use Rattle.asks.specs.Faults.{Reads, rangeGiven, askFaults}
 use Rattle.hub.specs.Tables.{Tables}
 
--- 16: a table not exactly 4096 octets
+-- R27. 16: a table not exactly 4096 octets
 abbrev pub WrongTables : Tables → Type 0
 WrongTables T = (length (T .states) ≡ 4096 → ⊥) ⊎ ((length (T .owners) ≡ 4096 → ⊥) ⊎ (length (T .helpers) ≡ 4096 → ⊥))
 
--- the message names the circuit: it is one of m to m+r, for the range r that the message gives
+-- R29. the message names the circuit: it is one of m to m+r, for the range r that the message gives
 abbrev pub NamedBy : List ℕ → Message → ℕ → Type 0
 NamedBy m x c = (x .circuit ≤ c) × (c ≤ x .circuit + rangeGiven m x)
 
--- 19: neither right is held on a named circuit, or the sender is 0
+-- R30. 19: neither right is held on a named circuit, or the sender is 0
 abbrev pub Foreign : Tables → ℕ → List ℕ → Message → Type 0
 Foreign T sender m x = ((c : ℕ) × NamedBy m x c × (octet (T .owners) c ≡ sender → ⊥) × (octet (T .helpers) c ≡ sender → ⊥)) ⊎ (sender ≡ 0)
 
--- what a helper may send: BLO, UBL, CQM, and CGB and CGU for maintenance
+-- R31. what a helper may send: BLO, UBL, CQM, and CGB and CGU for maintenance
 abbrev pub Helpable : List ℕ → Message → Type 0
 Helpable m x = OneOf (x .kind) (BLO ∷ UBL ∷ CQM ∷ []) ⊎ (OneOf (x .kind) (CGB ∷ CGU ∷ []) × (blockKind (indicatorIn m x) ≡ 0))
 
--- 22: a named circuit is only helped, and the type is not in the list
+-- R31. 22: a named circuit is only helped, and the type is not in the list
 abbrev pub OnlyHelped : Tables → ℕ → List ℕ → Message → Type 0
 OnlyHelped T sender m x = (Helpable m x → ⊥) × ((c : ℕ) × NamedBy m x c × (octet (T .owners) c ≡ sender → ⊥))
 
--- 20: a named circuit's state octet is not legal
+-- R32. 20: a named circuit's state octet is not legal
 abbrev pub Illegal : List ℕ → List ℕ → Message → Type 0
 Illegal states m x = (c : ℕ) × NamedBy m x c × (Legal (octet states c) → ⊥)
 
--- 21: IAM on a circuit that is busy or blocked, by the far side or by us
+-- R33. 21: IAM on a circuit that is busy or blocked, by the far side or by us
 abbrev pub Taken : List ℕ → Message → Type 0
 Taken states x = (x .kind ≡ IAM) × (octet states (x .circuit) ≡ 0 → ⊥)
 
@@ -55,7 +55,7 @@ answerSize kind r row =
     else if eqb kind CQM then 9 + r
     else 7 + width r
 
--- 13: lent output too short
+-- R34. 13: lent output too short
 abbrev pub NoRoom : List ℕ → List ℕ → ℕ → Message → Type 0
 NoRoom states m room x = room < answerSize (x .kind) (rangeGiven m x) (octet states (x .circuit))
 
@@ -70,6 +70,6 @@ pastTables T sender m room =
     ∷ fault 13 0 (Reads m (NoRoom (T .states) m room))
     ∷ [])
 
--- what a call may be refused for
+-- R34. what a call may be refused for
 abbrev pub actFaults : Tables → ℕ → List ℕ → ℕ → List Fault
 actFaults T sender m room = fault 16 0 (WrongTables T) ∷ pastTables T sender m room

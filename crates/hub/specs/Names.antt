@@ -17,7 +17,7 @@ Mine table sender circuit = (octet table circuit ≡ sender) × (sender ≡ 0 �
 abbrev pub HasRight : Tables → ℕ → ℕ → Type 0
 HasRight T sender circuit = Mine (T .owners) sender circuit ⊎ Mine (T .helpers) sender circuit
 
--- all of m to m+r are named, marked or not
+-- R29. all of m to m+r are named, marked or not
 abbrev pub Named : Ask → ℕ → Type 0
 Named a circuit = (a .circuit ≤ circuit) × (circuit ≤ a .circuit + a .range)
 

@@ -1,4 +1,4 @@
--- What answers what a message asks, from the rows before it.
+-- The answer to what a message asks, from the rows as they were before it.
 use Prim.Native.Nat.{ℕ, _+_}
 use mathlib.Core.List.{List, []}
 use lib.Dec.{eqb}

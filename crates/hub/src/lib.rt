@@ -1,4 +1,4 @@
-// The hub: nine types act on one shared table of circuits, and a message touches only what its sender owns or helps; and the desk blocks circuits from our side.
+// The hub: nine types act on one shared table of circuits. A message touches only what its sender owns or helps. Our own desk can block circuits too.
 ghost use mathlib.Core.Path.{_≡_};
 ghost use mathlib.Core.Logic.{_⊎_};
 ghost use Prim.Native.Nat.{_+_, _/_, _≤_, _<_};

@@ -8,7 +8,7 @@ use Rattle.writing.specs.Compact.{Compact}
 use Rattle.isup.specs.declared.Message.{Message}
 use Rattle.isup.specs.WellFormed.{WellFormed}
 
--- spare bits of the circuit number 0, variable parameters in pointer order right after the pointers, optional part next, nothing between or after; optional pointer 0 if there are no optional parameters
+-- R12. spare bits of the circuit number 0, variable parameters in pointer order right after the pointers, optional part next, nothing between or after; optional pointer 0 if there are no optional parameters
 pub record CompactForm (m : List ℕ) (x : Message) : Type 0 where
   pub formed : WellFormed m x
   pub spare : octet m 1 < 16

@@ -9,7 +9,7 @@ use Rattle.family.specs.Family.{readIn}
 use Rattle.isup.specs.declared.Message.{Message}
 use Rattle.isup.specs.Table.{isup}
 
--- octets 0 and 1: low eight bits first, high four bits in the low half of octet 1; the high half is ignored
+-- R6. octets 0 and 1: low eight bits first, high four bits in the low half of octet 1; the high half is ignored
 abbrev pub circuitOf : List ℕ → ℕ
 circuitOf m = octet m 0 + 256 * (octet m 1 % 16)
 

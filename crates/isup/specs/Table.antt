@@ -9,7 +9,7 @@ use Rattle.family.specs.Family.{Family}
 use Rattle.isup.specs.Limits.{longest}
 use Rattle.isup.specs.Types.{IAM, SAM, COT, ACM, CON, ANM, REL, SUS, RES, RLC, RSC, BLO, UBL, BLA, UBA, GRS, CGB, CGU, CGBA, CGUA, GRA, CQM, CQR, CPG}
 
--- the table, a line for each shape row
+-- R14. the table, a line for each shape row
 abbrev pub table : List (List ℕ × Shape)
 table =
     line (IAM ∷ []) 5 1 true
@@ -24,7 +24,7 @@ table =
     ∷ line (CQR ∷ []) 0 2 false
     ∷ []
 
--- what the table says of a type octet
+-- R14. what the table says of a type octet
 unfoldable pub shapeOf : ℕ → Row
 shapeOf t = look t table
 

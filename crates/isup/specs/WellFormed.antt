@@ -13,7 +13,7 @@ use Rattle.isup.specs.Limits.{longest}
 use Rattle.isup.specs.Table.{shapeOf}
 use Rattle.isup.specs.Read.{circuitOf}
 
--- 3 to 268 octets, a type of the table, and its parts laid out as the type's row says
+-- R5. 3 to 268 octets, a type of the table, and its parts laid out as the type's row says
 pub record WellFormed (m : List ℕ) (x : Message) : Type 0 where
   pub shape : Shape
   pub params : List Param

@@ -12,11 +12,11 @@ use Rattle.isup.specs.Limits.{lastCircuit}
 use Rattle.isup.specs.Table.{isup}
 use Rattle.isup.specs.Read.{circuitOf}
 
--- the circuit number: low eight bits first, then high four bits, the spare bits 0
+-- R6. the circuit number: low eight bits first, then high four bits, the spare bits 0
 abbrev pub headOf : ℕ → List ℕ
 headOf circuit = circuit % 256 ∷ circuit / 256 ∷ []
 
--- what is to be written of a message; ISUP has no third variable part
+-- R13. what is to be written of a message; ISUP has no third variable part
 abbrev pub orderOf : ℕ → ℕ → List ℕ → List ℕ → List ℕ → List ℕ → Order
 orderOf circuit kind fixed first second run = order (headOf circuit) kind fixed first second [] run
 

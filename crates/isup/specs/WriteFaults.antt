@@ -9,7 +9,7 @@ use Rattle.isup.specs.Table.{isup}
 use Rattle.isup.specs.Read.{circuitOf}
 use Rattle.isup.specs.Write.{headOf, orderOf, writeIn}
 
--- the writer's: 9, then the family's 3, 10, 11, 12, 2
+-- R17. the writer's: 9, then the family's 3, 10, 11, 12, 2
 abbrev pub writerFaults : ℕ → ℕ → List ℕ → List ℕ → List ℕ → List ℕ → List Fault
 writerFaults circuit kind fixed first second run =
     fault 9 0 (lastCircuit < circuit)

@@ -87,7 +87,7 @@ abbrev pub rowFaults : List ℕ → ℕ → Row → List Fault
 rowFaults m w (Has s) = containerFaults m w s
 rowFaults m w Unknown = []
 
--- a message of a family: 1 where L is under the header and the type octet, 2 where it is over the longest, 3 for a type that is not in the table or has no row that can be read
+-- R15. a message of a family: 1 where L is under the header and the type octet, 2 where it is over the longest, 3 for a type that is not in the table or has no row that can be read
 abbrev pub messageFaults : List ℕ → ℕ → ℕ → Row → List Fault
 messageFaults m w most r =
     fault 1 0 (length m ≤ w)

@@ -11,7 +11,7 @@ use Rattle.layout.specs.Container.{endOf}
 use Rattle.runs.specs.Params.{Param}
 use Rattle.layout.specs.Laid.{In, LaidOut}
 
--- octet i is the type's, the fixed part's or a pointer's, or in one of the parts
+-- R11. octet i is the type's, the fixed part's or a pointer's, or in one of the parts
 abbrev pub LookedAt : {m : List ℕ} {w : ℕ} {s : Shape} {p : Parts} {qs : List Param} → LaidOut m w s p qs → ℕ → Type 0
 LookedAt {m} {w} {s} l i = ((w ≤ i) × (i < endOf w s)) ⊎ (In (l .a) i ⊎ (In (l .b) i ⊎ (In (l .c) i ⊎ In (l .d) i)))
 

@@ -15,19 +15,19 @@ use Rattle.layout.specs.declared.Row.the-variants.{Has}
 use Rattle.layout.specs.Spans.{span}
 use Rattle.layout.specs.Container.{nothing, startOf, endOf, held}
 
--- the pointer at octet p points at t: counted from the pointer itself, not before e, where the pointers end, and within the message
+-- R8. the pointer at octet p points at t: counted from the pointer itself, not before e, where the pointers end, and within the message
 pub record Points (m : List ℕ) (e p t : ℕ) : Type 0 where
   pub counted : t ≡ p + octet m p
   pub behind : e ≤ t
   pub within : t < length m
 
--- the span is the variable parameter whose pointer stands at p: a length octet, then that many octets, all within the message
+-- R9. the span is the variable parameter whose pointer stands at p: a length octet, then that many octets, all within the message
 pub record Variable (m : List ℕ) (e p : ℕ) (s : Span) : Type 0 where
   pub pointed : Points m e p (s .from)
   pub ends : s .to ≡ s .from + 1 + octet m (s .from)
   pub inside : s .to ≤ length m
 
--- the optional part whose pointer stands at p, with its parameters: a pointer of 0 says that nothing is there
+-- R8, R10. the optional part whose pointer stands at p, with its parameters: a pointer of 0 says that nothing is there
 abbrev pub Optional : List ℕ → ℕ → ℕ → List Param → Span → Type 0
 Optional m e p qs s =
     ((octet m p ≡ 0) × (qs ≡ []) × (s ≡ nothing))
@@ -55,12 +55,12 @@ abbrev pub ApartFrom : Span → List Span → Type 0
 ApartFrom a [] = Unit {0}
 ApartFrom a (b ∷ bs) = (Share a b → ⊥) × ApartFrom a bs
 
--- no two of the list share an octet
+-- R11. no two of the list share an octet
 abbrev pub AllApart : List Span → Type 0
 AllApart [] = Unit {0}
 AllApart (a ∷ bs) = ApartFrom a bs × AllApart bs
 
--- the message has that shape, with its type octet at w; these are its parts, and qs its optional parameters
+-- R7. the message has that shape, with its type octet at w; these are its parts, and qs its optional parameters
 pub record LaidOut (m : List ℕ) (w : ℕ) (shape : Shape) (p : Parts) (qs : List Param) : Type 0 where
   -- the octets that each part takes: variable parameters with their length octets, the optional part through its closing 0
   pub a : Span

@@ -1,4 +1,4 @@
--- The octet that a refusal is about, as document 02 says it: by the number, with nothing of how the octet is come by.
+-- R16. The octet that a refusal is about, number by number, as the request says it. How a reader finds the octet plays no part.
 use Prim.Native.Nat.{ℕ, _+_, _-_, _≤_, _<_}
 use mathlib.Core.Path.{_≡_}
 use mathlib.Core.List.{List}
@@ -39,7 +39,7 @@ module _ (m : List ℕ) (w : ℕ) (s : Shape) where
       -- 8: the later start of the first pair that shares an octet
       ⊎ ((n ≡ 8) × FirstOverlap at)
 
--- what a reader's refusal is about: 1 and 2 no octet, 3 the type's octet, 4 the message's length, the others a part
+-- R16. what a reader's refusal is about: 1 and 2 no octet, 3 the type's octet, 4 the message's length, the others a part
 abbrev pub Place : List ℕ → ℕ → Row → ℕ → ℕ → Type 0
 Place m w r n at =
     ((n < 3) × (at ≡ 0))

@@ -15,7 +15,7 @@ statusBit status n = octet status (n / 8) / 2 ^ (n % 8) % 2
 abbrev pub cutTo : ℕ → ℕ → ℕ
 cutTo x r = x % 2 ^ (r % 8 + 1)
 
--- how many of the circuits m to m+r are marked: the bits 0 to r that are 1
+-- R41. how many of the circuits m to m+r are marked: the bits 0 to r that are 1
 unfoldable pub marksIn : ℕ → List ℕ → ℕ
 marksIn r status = total (statusBit status) 0 (r + 1)
 

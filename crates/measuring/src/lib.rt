@@ -1,4 +1,4 @@
-// How long the compact form of a message is, or which number stands against it: of any shape row, with any header, and with the lengths of its parts known.
+// How long the compact form of a message is, or which number refuses it, for any shape row and any header, from the lengths of its parts.
 ghost use mathlib.Core.Path.{_≡_};
 ghost use Prim.Native.Nat.{_≤_};
 ghost use Rattle.measuring.specs.Measure.{lacksOf, unfitOf, countOf, gap, reach, pointersOf, tooLong, beyondOf, tooFar, runSize, sizeOf, measureOf};

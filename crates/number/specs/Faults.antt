@@ -1,4 +1,4 @@
--- What is wrong where a number is refused, in the order in which it is looked for: 14, then 13.
+-- R25. What refuses a number, in the order of checking: 14, then 13.
 use Prim.Native.Nat.{ℕ, _+_, _/_, _<_}
 use mathlib.Core.Path.{_≡_}
 use mathlib.Core.List.{List, [], _∷_, _++_}
@@ -30,7 +30,7 @@ SignalAbove15 signals = (k : ℕ) × (k < length signals) × (15 < getD signals 
 abbrev pub TooShort : List ℕ → ℕ → Type 0
 TooShort buffer n = length buffer < n
 
--- the faults of contents: 14
+-- R25. the faults of contents: 14
 abbrev pub contentsFaults : List ℕ → List Fault
 contentsFaults contents =
     fault 14 0 (FewerThan2Octets contents)
@@ -43,7 +43,7 @@ contentsFaults contents =
 abbrev pub readFaults : List ℕ → List ℕ → List Fault
 readFaults contents buffer = contentsFaults contents ++ (fault 13 0 (TooShort buffer (countIn contents)) ∷ [])
 
--- the faults of values and signals: 14
+-- R25. the faults of values and signals: 14
 abbrev pub valuesFaults : ℕ → ℕ → ℕ → List ℕ → List Fault
 valuesFaults nature plan internal signals =
     fault 14 0 (127 < nature)

@@ -1,4 +1,4 @@
--- A called party number, said with no order of reading.
+-- A called party number, as statements with no order of reading.
 use Prim.Native.Nat.{ℕ, _+_, _*_, _/_, _%_, _<_, _≤_}
 use mathlib.Core.Path.{_≡_}
 use mathlib.Core.List.{List}
@@ -8,7 +8,7 @@ use Rattle.number.specs.declared.Number.{Number}
 use Rattle.number.specs.Halves.{lowHalf, highHalf}
 use Rattle.number.specs.Contents.{oddBit, natureIn, planIn, internalIn}
 
--- the contents are a number with these values and these signals
+-- R23, R24. the contents are a number with these values and these signals
 pub record WellFormedNumber (contents : List ℕ) (number : Number) (signals : List ℕ) : Type 0 where
   -- two octets, then one for each two signals, and one for a signal that is left over
   pub octets : length contents ≡ 2 + (number .count + 1) / 2

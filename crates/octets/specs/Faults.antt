@@ -1,4 +1,4 @@
--- Faults in the order in which they are looked for. A refusal is the first that is there; acceptance is the absence of all.
+-- Faults in the order of checking. A refusal is the first fault that is present. An answer is accepted if none is.
 use Prim.Native.Nat.{ℕ}
 use mathlib.Core.Path.{_≡_}
 use mathlib.Core.List.{List, [], _∷_}
@@ -24,7 +24,7 @@ abbrev pub None : List Fault → Type 0
 None [] = Unit {0}
 None (f ∷ fs) = Absent f × None fs
 
--- the answer refuses with the first fault in the list's order, and accepts exactly where there is none
+-- R2. the answer refuses with the first fault in the list's order, and accepts exactly where there is none
 pub record Judges {A : Type 0} (x : Answer A) (fs : List Fault) : Type 0 where
   pub refuses : (n at : ℕ) → (x ≡ refused n at) ↔ First fs n at
   pub accepts : ((a : A) × (x ≡ accepted a)) ↔ None fs

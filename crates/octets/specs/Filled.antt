@@ -8,7 +8,7 @@ use Rattle.octets.specs.Choice.{if_then_else_}
 use Rattle.octets.specs.Answer.{Answer, accepted, refused}
 use Rattle.octets.specs.Faults.{Fault, fault}
 
--- the octets fill the front of the buffer, and the rest of it is kept
+-- R3. the octets fill the front of the buffer, and the rest of it is kept
 abbrev pub filled : List ℕ → List ℕ → List ℕ
 filled octets buffer = octets ++ drop (length octets) buffer
 

@@ -37,7 +37,7 @@ pub record PlanReady (owners helpers ticks : List ℕ) (sender kind room : ℕ) 
   pub unstuck : isStuck kind (mayBlock kind owners helpers sender) (ticked ticks) ≡ false
   pub room-for : 9 * tickCount (ticked ticks) 0 4096 ≤ room
 
--- the plan for the sender's ticked circuits
+-- R66. the plan for the sender's ticked circuits
 abbrev pub planFor : List ℕ → List ℕ → List ℕ → ℕ → ℕ → List ℕ
 planFor owners helpers ticks sender kind = planOf kind (mayBlock kind owners helpers sender) (ticked ticks)
 
@@ -56,11 +56,11 @@ plannedIn T ticks sender kind room =
 unfoldable pub plannedOf : Tables → List ℕ → ℕ → ℕ → List ℕ → Done ℕ
 plannedOf T ticks sender kind buffer = done buffer (plannedIn T ticks sender kind (length buffer))
 
--- 25: no plan exists
+-- R67. 25: no plan exists
 abbrev pub NoPlan : Tables → List ℕ → ℕ → ℕ → Type 0
 NoPlan T ticks sender kind = (plan : List ℕ) → GoodPlan T ticks sender kind plan → ⊥
 
--- what the planner may be refused for, in the paper's words and order: 25 exactly if no plan exists, and 13 under 9 octets for each ticked circuit
+-- R67. what the planner may be refused for, in the paper's words and order: 25 exactly if no plan exists, and 13 under 9 octets for each ticked circuit
 abbrev pub planFaults : Tables → List ℕ → ℕ → ℕ → ℕ → List Fault
 planFaults T ticks sender kind room =
     fault 16 0 (WrongTables T ⊎ (length ticks ≡ 4096 → ⊥))

@@ -21,7 +21,7 @@ use Rattle.plans.specs.Frames.{framed, Each}
 abbrev pub ticked : List ℕ → ℕ → Bool
 ticked ticks c = not (eqb (octet ticks c) 0)
 
--- whether an act, with its kind of block, is one for a plan of that kind: CGB of that kind, and BLO too for maintenance
+-- R64. whether an act, with its kind of block, is one for a plan of that kind: CGB of that kind, and BLO too for maintenance
 unfoldable pub planned : ℕ → Act → ℕ → Bool
 planned kind Seize block = false
 planned kind Release block = false

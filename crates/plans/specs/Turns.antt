@@ -40,7 +40,7 @@ abbrev pub InTurn : Tables → ℕ → ℕ → List Step → Type 0
 InTurn T sender kind [] = Unit {0}
 InTurn T sender kind (s ∷ ss) = AcceptedStep T sender kind s × InTurn (tablesAfter T sender (s .message)) sender kind ss
 
--- a good plan: messages one after the other, each after one length octet, which the hub accepts in turn; each ticked circuit is marked once, and no other
+-- R65. a good plan: messages one after the other, each after one length octet, which the hub accepts in turn; each ticked circuit is marked once, and no other
 pub record GoodPlan (T : Tables) (ticks : List ℕ) (sender kind : ℕ) (plan : List ℕ) : Type 0 where
   pub states-sized : length (T .states) ≡ 4096
   pub owners-sized : length (T .owners) ≡ 4096

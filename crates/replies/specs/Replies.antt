@@ -51,7 +51,7 @@ rangeAndStates range group = 2 ∷ 3 ∷ 1 ∷ range ∷ ((range + 1) % 256) ∷
 abbrev pub completion : ℕ → ℕ → List ℕ
 completion circuit row = if eqb (local row) 1 then headed circuit BLO (headed circuit RLC (0 ∷ [])) else headed circuit RLC (0 ∷ [])
 
--- what the desk has to send: BLO where its own block is set, UBL where it is cleared
+-- R46. what the desk has to send: BLO where its own block is set, UBL where it is cleared
 abbrev pub noticeOf : ℕ → Bool → List ℕ
 noticeOf circuit set = headed circuit (if set then BLO else UBL) []
 

@@ -1,4 +1,4 @@
--- What an answer carries, with no way of working it out.
+-- What an answer carries, as statements and not as a computation.
 use Prim.Native.Nat.{ℕ, _+_, _≤_, _<_}
 use mathlib.Core.Path.{_≡_}
 use mathlib.Core.Bool.{false}
@@ -18,19 +18,19 @@ use Rattle.rows.specs.Rows.{local, circuitState}
 use Rattle.asks.specs.Asks.{width, bitAt}
 use Rattle.replies.specs.Replies.{statusGiven, statusLocked, statesFrom}
 
--- the status of an answer to range r: r/8+1 octets, whose bits 0 to r are those of the message's status, and whose spare bits are 0
+-- R43. the status of an answer to range r: r/8+1 octets, whose bits 0 to r are those of the message's status, and whose spare bits are 0
 pub record Marks (m : List ℕ) (from range : ℕ) (status : List ℕ) : Type 0 where
   pub wide : length status ≡ width range
   pub marks : (i : ℕ) → i ≤ range → bitAt status 0 i ≡ bitAt m from i
   pub spare : (i : ℕ) → range < i → bitAt status 0 i ≡ false
 
--- the status of GRA to range r: r/8+1 octets, whose bit i, for i from 0 to r, is 1 exactly where row m+i has the 8, and whose spare bits are 0
+-- R39. the status of GRA to range r: r/8+1 octets, whose bit i, for i from 0 to r, is 1 exactly where row m+i has the 8, and whose spare bits are 0
 pub record Locks (rows : List ℕ) (circuit range : ℕ) (status : List ℕ) : Type 0 where
   pub wide : length status ≡ width range
   pub locks : (i : ℕ) → i ≤ range → bitAt status 0 i ≡ eqb (local (octet rows (circuit + i))) 1
   pub spare : (i : ℕ) → range < i → bitAt status 0 i ≡ false
 
--- the circuit states of an answer to range r: r+1 octets, octet i being the state of row m+i
+-- R44. the circuit states of an answer to range r: r+1 octets, octet i being the state of row m+i
 pub record States (rows : List ℕ) (circuit range : ℕ) (states : List ℕ) : Type 0 where
   pub wide : length states ≡ range + 1
   pub each : (i : ℕ) → i ≤ range → octet states i ≡ circuitState (octet rows (circuit + i))
@@ -70,7 +70,7 @@ abbrev pub ReadsAs : List ℕ → ℕ → Saying → Type 0
 ReadsAs octets circuit s =
     (y : Message) × (readOf octets ≡ accepted y) × CompactForm octets y × Says octets y circuit (s .kind) (s .fixed) (s .first) (s .second) []
 
--- the octets are these messages, one after the other
+-- R45. the octets are these messages, one after the other
 abbrev pub ReadInTurn : List ℕ → ℕ → List Saying → Type 0
 ReadInTurn octets circuit [] = octets ≡ []
 ReadInTurn octets circuit (s ∷ ss) = (front : List ℕ) × (rest : List ℕ) × (octets ≡ front ++ rest) × ReadsAs front circuit s × ReadInTurn rest circuit ss

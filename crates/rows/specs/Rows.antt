@@ -25,7 +25,7 @@ hardware row = row / 4 % 2
 abbrev pub local : ℕ → ℕ
 local row = row / 8 % 2
 
--- the states that a row may have: document 01's, and each of them with 8 added
+-- R26. the states that a row may have: document 01's, and each of them with 8 added
 abbrev pub legalRows : List ℕ
 legalRows = 0 ∷ 1 ∷ 2 ∷ 3 ∷ 4 ∷ 6 ∷ 8 ∷ 9 ∷ 10 ∷ 11 ∷ 12 ∷ 14 ∷ []
 
@@ -99,6 +99,6 @@ unfoldable pub localRow : Bool → ℕ → ℕ
 localRow set row = if set then withLocal row else withoutLocal row
 
 -- ---- what is told of it
--- the circuit state octet of a row (003, 3.12): idle 0C, busy 04, remotely blocked for maintenance 02 more, for hardware 20 more, locally blocked 01 more
+-- R44. the circuit state octet of a row (003, 3.12): idle 0C, busy 04, remotely blocked for maintenance 02 more, for hardware 20 more, locally blocked 01 more
 abbrev pub circuitState : ℕ → ℕ
 circuitState row = 12 - 8 * busy row + 2 * maintenance row + 32 * hardware row + local row

@@ -1,4 +1,4 @@
--- The words of 'Circuit rules' on what becomes of a row, with no way of working it out. No act changes the 8: that is the desk's.
+-- What becomes of a row, in the words of the circuit rules, as statements and not as a computation. No act changes the 8: only the desk does.
 use Prim.Native.Nat.{ℕ, _/_}
 use mathlib.Core.Path.{_≡_}
 use mathlib.Core.Bool.{Bool, true, false}
@@ -6,39 +6,39 @@ use Rattle.rows.specs.declared.Act.{Act}
 use Rattle.rows.specs.declared.Act.the-variants.{Seize, Release, Reset, Block, Unblock, ResetGroup, BlockGroup, UnblockGroup, Query}
 use Rattle.rows.specs.Rows.{busy, maintenance, hardware, local}
 
--- IAM: state must be 0, becomes 1
+-- R35. IAM: state must be 0, becomes 1
 abbrev pub Seized : ℕ → ℕ → Type 0
 Seized old new = (old ≡ 0) × (new ≡ 1)
 
--- REL: not busy, blocks stay
+-- R36. REL: not busy, blocks stay
 abbrev pub Released : ℕ → ℕ → Type 0
 Released old new = (busy new ≡ 0) × (maintenance new ≡ maintenance old) × (hardware new ≡ hardware old) × (local new ≡ local old)
 
--- RSC, GRS: state 0 but for the 8, which is kept
+-- R37, R39. RSC, GRS: state 0 but for the 8, which is kept
 abbrev pub Cleared : ℕ → ℕ → Type 0
 Cleared old new = (busy new ≡ 0) × (maintenance new ≡ 0) × (hardware new ≡ 0) × (local new ≡ local old) × (new / 16 ≡ 0)
 
--- BLO, and CGB for maintenance: the 2 is set
+-- R38, R42. BLO, and CGB for maintenance: the 2 is set
 abbrev pub BlockedForMaintenance : ℕ → ℕ → Type 0
 BlockedForMaintenance old new = (maintenance new ≡ 1) × (busy new ≡ busy old) × (hardware new ≡ hardware old) × (local new ≡ local old)
 
--- UBL, and CGU for maintenance: the 2 is cleared
+-- R38, R42. UBL, and CGU for maintenance: the 2 is cleared
 abbrev pub UnblockedForMaintenance : ℕ → ℕ → Type 0
 UnblockedForMaintenance old new = (maintenance new ≡ 0) × (busy new ≡ busy old) × (hardware new ≡ hardware old) × (local new ≡ local old)
 
--- CGB for hardware: the 4 is set, and busy ends
+-- R42. CGB for hardware: the 4 is set, and busy ends
 abbrev pub BlockedForHardware : ℕ → ℕ → Type 0
 BlockedForHardware old new = (hardware new ≡ 1) × (busy new ≡ 0) × (maintenance new ≡ maintenance old) × (local new ≡ local old)
 
--- CGU for hardware: the 4 is cleared
+-- R42. CGU for hardware: the 4 is cleared
 abbrev pub UnblockedForHardware : ℕ → ℕ → Type 0
 UnblockedForHardware old new = (hardware new ≡ 0) × (busy new ≡ busy old) × (maintenance new ≡ maintenance old) × (local new ≡ local old)
 
--- CQM: no row changes
+-- R44. CQM: no row changes
 abbrev pub Unchanged : ℕ → ℕ → Type 0
 Unchanged old new = new ≡ old
 
--- the desk sets the 8, or clears it; all else that the row says stays
+-- R46. the desk sets the 8, or clears it; all else that the row says stays
 abbrev pub LocallyBlocked : Bool → ℕ → ℕ → Type 0
 LocallyBlocked true old new = (local new ≡ 1) × (busy new ≡ busy old) × (maintenance new ≡ maintenance old) × (hardware new ≡ hardware old)
 LocallyBlocked false old new = (local new ≡ 0) × (busy new ≡ busy old) × (maintenance new ≡ maintenance old) × (hardware new ≡ hardware old)

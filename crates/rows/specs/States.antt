@@ -19,7 +19,7 @@ bitsFE octet = octet / 16 % 4
 abbrev pub bitsHG : ℕ → ℕ
 bitsHG octet = octet / 64
 
--- what a state octet says of a row
+-- R44. what a state octet says of a row
 pub record SaysOfRow (row octet : ℕ) : Type 0 where
   -- 0 1: circuit incoming busy (all our busy circuits are incoming)
   pub incoming : busy row ≡ 1 → bitsDC octet ≡ 1

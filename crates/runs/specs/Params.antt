@@ -29,7 +29,7 @@ Params m i (q ∷ qs) z = (k : ℕ) × ParamAt m i q k × Params m k qs z
 abbrev pub Closes : List ℕ → ℕ → Type 0
 Closes m z = (z < length m) × (octet m z ≡ 0)
 
--- from octet i on stand these parameters, then a 0 where a name would stand, the last octet before j
+-- R10. from octet i on stand these parameters, then a 0 where a name would stand, the last octet before j
 abbrev pub Run : List ℕ → ℕ → List Param → ℕ → Type 0
 Run m i qs j = (z : ℕ) × Params m i qs z × Closes m z × (j ≡ z + 1)
 
@@ -45,7 +45,7 @@ Ends m z = Closes m z ⊎ ((length m ≤ z) ⊎ Passes m z)
 abbrev pub Whole : List ℕ → ℕ → List Param → Type 0
 Whole m i qs = (z : ℕ) × Params m i qs z × Ends m z
 
--- a run that is lent by itself: its whole parameters come to a name 0, or to a parameter that passes its end
+-- R18. a run that is lent by itself: its whole parameters come to a name 0, or to a parameter that passes its end
 abbrev pub BadRun : List ℕ → Type 0
 BadRun r = (i : ℕ) × (qs : List Param) × Params r 0 qs i × (Closes r i ⊎ Passes r i)
 
@@ -54,7 +54,7 @@ abbrev pub NoneNamed : ℕ → List Param → Type 0
 NoneNamed name [] = Unit {0}
 NoneNamed name (q ∷ qs) = (q .name ≡ name → ⊥) × NoneNamed name qs
 
--- of the parameters qs, which stand from octet i on, the first of that name has its contents at octet a, and they are n octets
+-- R20. of the parameters qs, which stand from octet i on, the first of that name has its contents at octet a, and they are n octets
 pub record FirstNamed (m : List ℕ) (i : ℕ) (qs : List Param) (name a n : ℕ) : Type 0 where
   pub before : List Param
   pub it : Param

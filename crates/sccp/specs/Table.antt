@@ -8,7 +8,7 @@ use Rattle.layout.specs.declared.Row.{Row}
 use Rattle.family.specs.Table.{line, look}
 use Rattle.family.specs.Family.{Family}
 
--- the table, a line for each shape row: CR; CC, RLSD, RSR; CREF, ERR; RLC, RSC; DT1; DT2; AK; UDT, UDTS; ED; EA; IT; XUDT, XUDTS
+-- R53. the table, a line for each shape row: CR; CC, RLSD, RSR; CREF, ERR; RLC, RSC; DT1; DT2; AK; UDT, UDTS; ED; EA; IT; XUDT, XUDTS
 abbrev pub sccpTable : List (List ℕ × Shape)
 sccpTable =
     line (0x01 ∷ []) 4 1 true

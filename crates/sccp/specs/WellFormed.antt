@@ -13,7 +13,7 @@ use Rattle.writing.specs.Compact.{Compact}
 use Rattle.sccp.specs.declared.Message.{Message}
 use Rattle.sccp.specs.Table.{sccpShapeOf, longestSccp}
 
--- 1 to 268 octets, a type of the table, and its parts laid out as the type's row says
+-- R52. 1 to 268 octets, a type of the table, and its parts laid out as the type's row says
 pub record SccpFormed (m : List ℕ) (x : Message) : Type 0 where
   pub shape : Shape
   pub params : List Param

@@ -32,7 +32,7 @@ senderLine q t = decimalOf q ++ fourNumbers t
 abbrev pub allLine : Tally → List ℕ
 allLine t = said "all" ++ fourNumbers t
 
--- the line of a sender that sent something
+-- R63. the line of a sender that sent something
 abbrev pub lineOf : ℕ → Tally → List ℕ
 lineOf q t = if eqb (t .messages) 0 then [] else senderLine q t
 

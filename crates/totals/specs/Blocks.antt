@@ -23,7 +23,7 @@ busyIn rows c n = total (λ i. busy (octet rows i)) c n
 abbrev pub blockCount : List ℕ → ℕ → ℕ
 blockCount rows k = busyIn rows (64 * k) 64
 
--- the total of block k is right: it is the count of its rows
+-- R55. the total of block k is right: it is the count of its rows
 abbrev pub Right : List ℕ → List ℕ → ℕ → Type 0
 Right rows totals k = octet totals k ≡ blockCount rows k
 
@@ -57,6 +57,6 @@ rebuildOf states totals =
 abbrev pub WrongSizes : List ℕ → List ℕ → Type 0
 WrongSizes states totals = (length states ≡ 4096 → ⊥) ⊎ (length totals ≡ 64 → ⊥)
 
--- what a rebuild may be refused for
+-- R58. what a rebuild may be refused for
 abbrev pub rebuildFaults : List ℕ → List ℕ → List Fault
 rebuildFaults states totals = fault 16 0 (WrongSizes states totals) ∷ []

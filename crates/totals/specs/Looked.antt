@@ -1,4 +1,4 @@
--- The question with no way of working it out: which blocks are whole, which rows are loose, and the sums over all blocks and all circuits.
+-- The question as statements and not as a computation: which blocks are whole, which rows are loose, and the sums over all blocks and all circuits.
 use Prim.Native.Nat.{ℕ, _+_, _*_, _/_}
 use mathlib.Core.Bool.{Bool, true, false}
 use lib.Dec.{ltb}
@@ -25,7 +25,7 @@ isWhole a b k = if isAsked a b (blockFirst k) then isAsked a b (blockLast k) els
 abbrev pub isLoose : ℕ → ℕ → ℕ → Bool
 isLoose a b i = if isAsked a b i then (if isWhole a b (i / 64) then false else true) else false
 
--- the sum over all 4096 rows that are loose, and over all 64 blocks that are whole
+-- R57. the sum over all 4096 rows that are loose, and over all 64 blocks that are whole
 abbrev pub looseAndWhole : (ℕ → ℕ) → (ℕ → ℕ) → ℕ → ℕ → ℕ
 looseAndWhole row whole a b =
     total (λ i. if isLoose a b i then row i else 0) 0 4096

@@ -49,7 +49,7 @@ busyBetween states totals a b =
     else accepted (countBetween states totals a b))
     else refused 16 0
 
--- what a question may be refused for, in the paper's order
+-- R57. what a question may be refused for, in the paper's order
 abbrev pub busyFaults : List ℕ → List ℕ → ℕ → ℕ → List Fault
 busyFaults states totals a b =
     fault 16 0 (WrongSizes states totals)

@@ -1,4 +1,4 @@
--- What stands against a velocity, and against codes: 26, about no octet.
+-- R72. What refuses a velocity, or codes: 26, which is about no octet.
 use mathlib.Core.List.{List, [], _∷_}
 use Prim.Native.Nat.{_<_}
 use Rattle.octets.specs.Faults.{Fault, fault}
@@ -10,6 +10,6 @@ use Rattle.velocity.specs.Rules.{RefusedFor, bearingCode}
 abbrev pub velocityFaults : Velocity → List Fault
 velocityFaults v = fault 26 0 (RefusedFor v) ∷ []
 
--- a bearing code above 359
+-- R72. a bearing code above 359
 abbrev pub codesFaults : Codes → List Fault
 codesFaults c = fault 26 0 (359 < bearingCode c) ∷ []

@@ -1,4 +1,4 @@
--- 6.19.1, 6.19.2 and the request as statements: no order of working, no rounding.
+-- Clauses 6.19.1 and 6.19.2 and the request, as statements over exact fractions: no order of steps, no rounding.
 use mathlib.Core.Path.{_≡_}
 use mathlib.Core.Bool.{Bool, true, false}
 use mathlib.Core.Logic.{_⊎_}
@@ -24,7 +24,7 @@ fieldsName true zero zero = exactly 0 1
 fieldsName true zero (suc t) = none
 fieldsName true (suc x) t = none
 
--- bit 64 is the sign, 63 to 53 the exponent, 52 to 1 the digits
+-- R68. bit 64 is the sign, 63 to 53 the exponent, 52 to 1 the digits
 abbrev pub bitsName : ℕ → Measured
 bitsName b = fieldsName (leb (2 ^ 63) b) (b % 2 ^ 63 / 2 ^ 52) (b % 2 ^ 52)
 
@@ -34,13 +34,13 @@ pub data Same : Measured → Measured → Type 0 where
   neither : Same none none
 
 -- ---- the codes of a fraction a / c
--- N ≤ b < N + 1, b < 360
+-- R69. N ≤ b < N + 1, b < 360
 pub record Bearing (a c n : ℕ) : Type 0 where
   pub least : n * c ≤ a
   pub most : a < (n + 1) * c
   pub circle : a < 360 * c
 
--- N - 1/2 ≤ h < N + 1/2 below the top, top - 1/2 ≤ h at it
+-- R70. N - 1/2 ≤ h < N + 1/2 below the top, top - 1/2 ≤ h at it
 abbrev pub Speed : ℕ → ℕ → ℕ → ℕ → Type 0
 Speed top a c n =
     ((n < top) × (n * (2 * c) ≤ 2 * a + c) × (2 * a + c < (n + 1) * (2 * c)))
@@ -65,7 +65,7 @@ pub record SpeedIs (top : ℕ) (x : Float) (n : ℕ) : Type 0 where
   pub value : Fraction x over by
   pub code : Speed top over by n
 
--- c is the codes of v
+-- R68. c is the codes of v
 abbrev pub CodedAs : Velocity → Codes → Type 0
 CodedAs (Along b s) (Horizontal n k) = BearingIs b n × SpeedIs 65535 s k
 CodedAs (Along b s) (WithVertical n k j mark) = ⊥
@@ -84,7 +84,7 @@ pub record Past (x : Float) : Type 0 where
   pub value : Fraction x over by
   pub past : 360 * by ≤ over
 
--- a value that is wrong, or a bearing from 360 up
+-- R72. a value that is wrong, or a bearing from 360 up
 abbrev pub RefusedFor : Velocity → Type 0
 RefusedFor (Along b s) = (Wrong b ⊎ Past b) ⊎ Wrong s
 RefusedFor (AlongAndUp b s u mark) = (Wrong b ⊎ Past b) ⊎ Wrong s ⊎ Wrong u
@@ -105,7 +105,7 @@ pub record Itself (x : Float) (n : ℕ) : Type 0 where
   pub by : ℕ
   pub value : Fraction x (n * by) by
 
--- what is read is the codes themselves: bearing and speed in the record, vertical speed and mark beside it
+-- R71. what is read is the codes themselves: bearing and speed in the record, vertical speed and mark beside it
 abbrev pub ReadBack : Codes → Stands → Type 0
 ReadBack (Horizontal b s) (alone c) = Itself (c .bearing) b × Itself (c .speed) s
 ReadBack (Horizontal b s) (beside c x mark) = ⊥
@@ -128,7 +128,7 @@ pub record NearBy (x y : Float) : Type 0 where
   pub above : 2 * (p * c) ≤ 2 * (a * q) + c * q
   pub below : 2 * (a * q) ≤ 2 * (p * c) + c * q
 
--- what is read lies within one half of what was measured, for a speed below the top
+-- R71. what is read lies within one half of what was measured, for a speed below the top
 pub data Half : Velocity → Codes → Stands → Type 0 where
   flatly : {b s : Float} {n k : ℕ} {c : Course} → (k < 65535 → NearBy s (c .speed)) → Half (Along b s) (Horizontal n k) (alone c)
   fully :

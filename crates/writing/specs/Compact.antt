@@ -19,7 +19,7 @@ abbrev pub Tight : ℕ → List Span → ℕ → Type 0
 Tight e [] z = z ≡ e
 Tight e (s ∷ ss) z = ((s ≡ nothing) × Tight e ss z) ⊎ ((s .from ≡ e) × (s .from < s .to) × Tight (s .to) ss z)
 
--- the message is laid out so, in compact form
+-- R12. the message is laid out so, in compact form
 pub record Compact (m : List ℕ) (w : ℕ) (s : Shape) (p : Parts) (qs : List Param) : Type 0 where
   pub laid : LaidOut m w s p qs
   pub tight : Tight (endOf w s) (laid .a ∷ laid .b ∷ laid .c ∷ laid .d ∷ []) (length m)
