@@ -967,16 +967,19 @@ uint32_t plain_plan(const uint8_t *states, size_t states_length, const uint8_t *
         return refusal(16);
     if (kind > FOR_HARDWARE)
         return refusal(14);
-    for (unsigned c = 0; c < CIRCUITS; c++)
+    size_t count = 0;
+    int stuck = 0;
+    for (unsigned c = 0; c < CIRCUITS; c++) {
         if (!legal(states[c]))
             return refusal(20);
-    size_t count = 0;
-    for (unsigned c = 0; c < CIRCUITS; c++)
         if (ticks[c]) {
             if (!can_mark(owners, helpers, sender, kind, c))
-                return refusal(25);
+                stuck = 1;
             count++;
         }
+    }
+    if (stuck)
+        return refusal(25);
     if (room < 9 * count)
         return refusal(13);
 

@@ -8,8 +8,8 @@ use borrow.Author.Tests.{lt-ltb, le-ltb}
 use lib.Dec.{ltb}
 use lib.ListN.{take, drop}
 use Rattle.octets.specs.Answer.{accepted, refused, _then_}
-use Rattle.layout.specs.declared.Span.{Span}
-use Rattle.layout.specs.Spans.{spanSize}
+use Rattle.parts.specs.declared.Span.{Span}
+use Rattle.parts.specs.Spans.{spanSize}
 use Rattle.marks.specs.Marks.{marksIn}
 use Rattle.isup.specs.declared.Message.{Message}
 use Rattle.isup.specs.declared.Reading.{Reading}

@@ -13,7 +13,7 @@ use Rattle.octets.specs.Among.{among, OneOf}
 use Rattle.octets.proofs.Choice.{decided, true-false}
 use Rattle.octets.proofs.Among.{among-one, one-among}
 use Rattle.octets.proofs.Faults.{judges-done, judges-there, judges-absent, judges-if, judges-then}
-use Rattle.layout.specs.Spans.{spanSize}
+use Rattle.parts.specs.Spans.{spanSize}
 use Rattle.isup.specs.declared.Message.{Message}
 use Rattle.isup.specs.Read.{readOf}
 use Rattle.isup.specs.WellFormed.{WellFormed}

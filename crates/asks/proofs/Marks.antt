@@ -14,8 +14,8 @@ use Rattle.octets.specs.Sum.{total}
 use Rattle.octets.proofs.Choice.{decided}
 use Rattle.octets.proofs.Octet.{octets-octet}
 use Rattle.octets.proofs.Sum.{total-same}
-use Rattle.layout.specs.declared.Span.{Span}
-use Rattle.layout.specs.Spans.{spanSize}
+use Rattle.parts.specs.declared.Span.{Span}
+use Rattle.parts.specs.Spans.{spanSize}
 use Rattle.isup.specs.declared.Message.{Message}
 use Rattle.marks.specs.Marks.{statusBit, marksIn}
 use Rattle.marks.proofs.Counted.{kept-bit}

@@ -12,12 +12,12 @@ use Rattle.octets.specs.Octet.{AllOctets}
 use Rattle.octets.specs.Choice.{if_then_else_}
 use Rattle.octets.specs.Answer.{accepted, _then_}
 use Rattle.octets.proofs.Answer.{accepted-same, past-test, then-accepted, then-same}
-use Rattle.layout.specs.declared.Span.{Span}
-use Rattle.layout.specs.Spans.{spanSize}
+use Rattle.parts.specs.declared.Span.{Span}
+use Rattle.parts.specs.Spans.{spanSize}
 use Rattle.layout.specs.declared.Shape.{Shape}
-use Rattle.layout.specs.declared.Parts.{Parts}
+use Rattle.parts.specs.declared.Parts.{Parts}
 use Rattle.layout.specs.declared.Row.the-variants.{Has}
-use Rattle.layout.specs.Container.{contentsOf, held}
+use Rattle.parts.specs.Overlap.{contentsOf, held}
 use Rattle.isup.specs.declared.Message.{Message}
 use Rattle.isup.specs.Table.{shapeOf}
 use Rattle.isup.specs.Read.{readOf}

@@ -10,8 +10,8 @@ use lib.Dec.{ltb, eqb}
 use Rattle.octets.specs.Octet.{octet, octets}
 use Rattle.octets.specs.Choice.{if_then_else_}
 use Rattle.octets.specs.Answer.{Answer, accepted, refused, _then_}
-use Rattle.layout.specs.declared.Span.{Span}
-use Rattle.layout.specs.Spans.{spanSize}
+use Rattle.parts.specs.declared.Span.{Span}
+use Rattle.parts.specs.Spans.{spanSize}
 use Rattle.isup.specs.declared.Message.{Message}
 use Rattle.isup.specs.Limits.{lastCircuit}
 use Rattle.isup.specs.Read.{readOf}

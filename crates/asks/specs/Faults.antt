@@ -13,7 +13,7 @@ use Rattle.isup.specs.Faults.{readerFaults}
 use Rattle.marks.specs.Marks.{marksIn}
 use Rattle.isup.specs.Types.{GRS, CGB, CGU, CQM}
 use Rattle.asks.specs.Types.{acting}
-use Rattle.layout.specs.Spans.{spanSize}
+use Rattle.parts.specs.Spans.{spanSize}
 use Rattle.asks.specs.Asks.{rangeIn, blockKind, width, groupStatus, indicatorIn}
 
 -- the message reads, and what it reads as is such

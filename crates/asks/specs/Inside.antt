@@ -4,8 +4,8 @@ use mathlib.Core.Path.{_≡_}
 use mathlib.Core.List.{List}
 use mathlib.Core.Logic.{_⊎_}
 use lib.ListN.{length}
-use Rattle.layout.specs.declared.Span.{Span}
-use Rattle.layout.specs.Spans.{span}
+use Rattle.parts.specs.declared.Span.{Span}
+use Rattle.parts.specs.Spans.{span}
 use Rattle.isup.specs.declared.Message.{Message}
 use Rattle.isup.specs.Limits.{lastCircuit}
 use Rattle.isup.specs.Types.{CGB, CGU}

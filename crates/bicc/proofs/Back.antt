@@ -7,8 +7,8 @@ use lib.ListN.{length}
 use Rattle.octets.specs.Octet.{octets, AllOctets}
 use Rattle.octets.specs.Answer.{accepted}
 use Rattle.octets.proofs.Octet.{length-octets}
-use Rattle.layout.specs.declared.Parts.{Parts}
-use Rattle.layout.specs.Spans.{partOf}
+use Rattle.parts.specs.declared.Parts.{Parts}
+use Rattle.parts.specs.Spans.{partOf}
 use Rattle.writing.specs.Write.{Order, order}
 use Rattle.writing.specs.Compact.{saidBy}
 use Rattle.writing.proofs.Again.{said-fits}

@@ -3,8 +3,9 @@ use mathlib.Core.Path.{_≡_, refl}
 use mathlib.Core.List.{[], _∷_}
 use Rattle.octets.specs.Answer.{accepted, refused}
 use Rattle.runs.specs.Run.{stepAt, stops, stopFrom}
-use Rattle.layout.specs.Spans.{span}
-use Rattle.layout.specs.Container.{nothing, runFrom, variableAt, optionalAt, variableSlot, optionalSlot, sharesOf, judged, held, containerOf, partsOf}
+use Rattle.parts.specs.Spans.{span}
+use Rattle.layout.specs.Container.{nothing, runFrom, variableAt, optionalAt, variableSlot, optionalSlot, containerOf, partsOf}
+use Rattle.parts.specs.Overlap.{sharesOf, judged, held}
 use Rattle.isup.specs.Table.{shapeOf as isupShapeOf}
 use Rattle.bicc.specs.Table.{callShapeOf}
 use Rattle.bicc.specs.Read.{callReadOf}

@@ -8,8 +8,8 @@ use Rattle.bicc.specs.declared.Message.{Message}
 use Rattle.bicc.specs.Table.{callShapeOf}
 use Rattle.bicc.specs.Read.{callReadOf}
 use Rattle.bicc.specs.Write.{callWriteOf, callCompactOf}
-use Rattle.requests.specs.Kinds.{FieldSays}
-use Rattle.requests.specs.Rows.{BICC-SHAPE, BICC-READ, BICC-WRITE}
+use Rattle.fields.specs.Kinds.{FieldSays}
+use Rattle.forms.specs.Rows.{BICC-SHAPE, BICC-READ, BICC-WRITE}
 use Rattle.requests.specs.Words.{numberAt, octetAt, octetsAt}
 use Rattle.lines.specs.Lines.{counted, shown, faultLine, octetsLine, compactLine, lent}
 use Rattle.read_lines.specs.Read.{shapeLine, partsLine}

@@ -13,11 +13,11 @@ ghost use Rattle.lines.specs.Lines.{octetsLine, againLine, compactLine, lent};
 ghost use Rattle.bicc_lines.specs.Bicc.{codeLine, biccLine};
 use bicc::Message;
 use bicc::Reading;
+use fields::Field;
+use forms::BICC_READ;
+use forms::BICC_SHAPE;
+use forms::BICC_WRITE;
 use octets::Written;
-use requests::BICC_READ;
-use requests::BICC_SHAPE;
-use requests::BICC_WRITE;
-use requests::Field;
 use requests::Request;
 
 // What a message says that reads so.
@@ -25,17 +25,17 @@ fn say_message(message: &[u8], x: Message, out: &mut [u8]) -> usize
     ensures { λ r. ⌜ sheet (now (out .exit)) r ≡ pour (sheet (now (out .entry)) 0) (codeLine (now (message .entry)) (callTold (Reading.Read x))) ⌝ }
 {
     let parts = x.parts;
-    let code = lines::put_count(b"code ", x.code, out, 0);
-    let kind = lines::put_shown(b" type ", &[x.kind], out, code);
-    read_lines::put_parts(message, parts, out, kind)
+    let code = sayings::put_count(b"code ", x.code, out, 0);
+    let kind = sayings::put_shown(b" type ", &[x.kind], out, code);
+    message_lines::put_parts(message, parts, out, kind)
 }
 
 // Says what a message says, or the refusal with its octet.
 fn say_read(message: &[u8], out: &mut [u8]) -> usize
     ensures { λ r. ⌜ sheet (now (out .exit)) r ≡ pour (sheet (now (out .entry)) 0) (codeLine (now (message .entry)) (callReadOf (now (message .entry)))) ⌝ }
 {
-    match bicc::read(message) {
-        Reading::Refused(n, at) => lines::say_fault(n, at as u32, out),
+    match bicc_codec::read(message) {
+        Reading::Refused(n, at) => sayings::say_fault(n, at as u32, out),
         Reading::Read(x) => say_message(message, x, out),
     }
 }
@@ -55,18 +55,18 @@ fn say_write(fields: [Field; 8], octets: &[u8], out: &mut [u8]) -> usize
     let second = fields[4];
     let optional = fields[5];
     let room = fields[6];
-    let mut space = lines::blank_space();
-    let buffer = lines::front(&mut space, room.value as usize);
-    let written = bicc::write(
+    let mut space = pieces::blank_space();
+    let buffer = pieces::front(&mut space, room.value as usize);
+    let written = bicc_codec::write(
         code.value,
         kind.value,
-        lines::stretch(octets, fixed.from, fixed.count as usize),
-        lines::stretch(octets, first.from, first.count as usize),
-        lines::stretch(octets, second.from, second.count as usize),
-        lines::stretch(octets, optional.from, optional.count as usize),
+        pieces::stretch(octets, fixed.from, fixed.count as usize),
+        pieces::stretch(octets, first.from, first.count as usize),
+        pieces::stretch(octets, second.from, second.count as usize),
+        pieces::stretch(octets, optional.from, optional.count as usize),
         buffer,
     );
-    lines::say_written(written, buffer, out)
+    sayings::say_written(written, buffer, out)
 }
 
 // What was written again to the front of a buffer, or the reader's refusal with its octet.
@@ -75,8 +75,10 @@ fn say_again(written: Written, buffer: &[u8], out: &mut [u8]) -> usize
     ensures { λ r. ⌜ sheet (now (out .exit)) r ≡ pour (sheet (now (out .entry)) 0) (againLine (writtenTold written) (now (buffer .entry))) ⌝ }
 {
     match written {
-        Written::Octets(n) => { lines::put_shown(b"octets ", lines::stretch(buffer, 0, n), out, 0) }
-        Written::Refused(n, at) => lines::say_fault(n, at as u32, out),
+        Written::Octets(n) => {
+            sayings::put_shown(b"octets ", pieces::stretch(buffer, 0, n), out, 0)
+        }
+        Written::Refused(n, at) => sayings::say_fault(n, at as u32, out),
     }
 }
 
@@ -87,10 +89,10 @@ fn say_compact(fields: [Field; 8], octets: &[u8], out: &mut [u8]) -> usize
 {
     let message = fields[0];
     let room = fields[1];
-    let mut space = lines::blank_space();
-    let buffer = lines::front(&mut space, room.value as usize);
-    let written = bicc::compact(
-        lines::stretch(octets, message.from, message.count as usize),
+    let mut space = pieces::blank_space();
+    let buffer = pieces::front(&mut space, room.value as usize);
+    let written = bicc_codec::compact(
+        pieces::stretch(octets, message.from, message.count as usize),
         buffer,
     );
     say_again(written, buffer, out)
@@ -103,12 +105,12 @@ pub fn bicc_line(request: Request, octets: &[u8], out: &mut [u8]) -> usize
     let fields = request.fields;
     if request.which == BICC_SHAPE {
         let kind = fields[0];
-        return read_lines::say_row(bicc::shape_of((kind.value % 256) as u8), out);
+        return shape_lines::say_row(bicc_codec::shape_of((kind.value % 256) as u8), out);
     }
     if request.which == BICC_READ {
         let message = fields[0];
         return say_read(
-            lines::stretch(octets, message.from, message.count as usize),
+            pieces::stretch(octets, message.from, message.count as usize),
             out,
         );
     }

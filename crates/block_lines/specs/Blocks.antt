@@ -6,8 +6,8 @@ use lib.ListN.{take}
 use Rattle.octets.specs.Answer.{Answer, accepted, refused}
 use Rattle.board.specs.Board.{BoardAfter, deskBoardOf}
 use Rattle.printing.specs.Sheet.{Sheet, pour}
-use Rattle.requests.specs.Kinds.{FieldSays}
-use Rattle.requests.specs.Rows.{BLOCK}
+use Rattle.fields.specs.Kinds.{FieldSays}
+use Rattle.forms.specs.Rows.{BLOCK}
 use Rattle.requests.specs.Words.{numberAt}
 use Rattle.lines.specs.Lines.{shown, refusal, lent}
 

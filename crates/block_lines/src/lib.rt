@@ -5,8 +5,8 @@ ghost use Rattle.octets.specs.Told.{writtenTold};
 ghost use Rattle.printing.specs.Sheet.{sheet, pour};
 ghost use Rattle.requests.specs.Along.{saidIn};
 ghost use Rattle.block_lines.specs.Blocks.{noticeLine, blockDone, blocked, blockedBy};
+use forms::BLOCK;
 use octets::Written;
-use requests::BLOCK;
 use requests::Request;
 
 // What the desk call answered, its octets at the front of a buffer, or the refusal.
@@ -14,8 +14,8 @@ fn say_noticed(noticed: Written, buffer: &[u8], out: &mut [u8]) -> usize
     ensures { λ r. ⌜ sheet (now (out .exit)) r ≡ pour (sheet (now (out .entry)) 0) (noticeLine (writtenTold noticed) (now (buffer .entry))) ⌝ }
 {
     match noticed {
-        Written::Octets(n) => lines::put_shown(b"answer ", lines::stretch(buffer, 0, n), out, 0),
-        Written::Refused(n, _) => lines::say_refusal(n, out),
+        Written::Octets(n) => sayings::put_shown(b"answer ", pieces::stretch(buffer, 0, n), out, 0),
+        Written::Refused(n, _) => sayings::say_refusal(n, out),
     }
 }
 
@@ -27,9 +27,9 @@ pub fn block_turn(request: Request, states: &mut [u8], totals: &mut [u8], out: &
     let fields = request.fields;
     let circuit = fields[0];
     let room = fields[1];
-    let mut space = lines::blank_space();
-    let buffer = lines::front(&mut space, room.value as usize);
-    let noticed = board::desk_call(
+    let mut space = pieces::blank_space();
+    let buffer = pieces::front(&mut space, room.value as usize);
+    let noticed = counting::desk_call(
         states,
         totals,
         circuit.value,

@@ -12,7 +12,7 @@ use Rattle.octets.specs.Answer.{Answer, refused}
 use Rattle.octets.specs.Faults.{Fault, Judges, fault}
 use Rattle.octets.proofs.Faults.{judges-there, judges-first}
 use Rattle.asks.specs.Asks.{askOf}
-use Rattle.hub.specs.Tables.{Tables}
+use Rattle.rights.specs.Tables.{Tables}
 use Rattle.hub.specs.Acts.{After, actOf}
 use Rattle.hub.specs.Desk.{deskOf}
 use Rattle.hub.specs.Deeds.{Deed, withCircuits}

@@ -24,10 +24,10 @@ use Rattle.asks.specs.Asks.{askOf}
 use Rattle.asks.proofs.Reading.{ask-last}
 use Rattle.hub.specs.declared.Handled.{Handled}
 use Rattle.hub.specs.declared.Handled.the-variants.{Done, Refused as Withheld}
-use Rattle.hub.specs.Tables.{Tables}
+use Rattle.rights.specs.Tables.{Tables}
 use Rattle.hub.specs.Acts.{After, after, actOf}
 use Rattle.hub.specs.Desk.{deskOf}
-use Rattle.hub.specs.Names.{Names}
+use Rattle.rights.specs.Names.{Names}
 use Rattle.hub.specs.Deeds.{Deed, deed, Handling, handling, withCircuits, handledOf, handledTold, unspanned}
 use Rattle.hub.proofs.Called.{call-accepted, act-keeps, buffer-length, untouched}
 use Rattle.hub.proofs.Places.{act-places-within}

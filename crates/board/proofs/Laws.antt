@@ -38,15 +38,16 @@ use Rattle.asks.proofs.Judged.{ask-judges}
 use Rattle.asks.proofs.Types.{for-type}
 use Rattle.asks.proofs.Reading.{asked-is, ask-read, ask-last}
 use Rattle.replies.specs.Replies.{replyLength}
-use Rattle.hub.specs.Tables.{Tables, tables}
-use Rattle.hub.specs.Rights.{mayHelp, firstForeign, firstUnowned, firstIllegal, isFound}
+use Rattle.rights.specs.Tables.{Tables, tables}
+use Rattle.rights.specs.Rights.{mayHelp, firstForeign, firstUnowned, firstIllegal, isFound}
 use Rattle.hub.specs.Rows.{effect, rowsAfter}
 use Rattle.hub.specs.Replies.{replyOf}
-use Rattle.hub.specs.Acts.{isTaken, isUnhelpable, permittedOf, allowedOf, grantOf, carriedOut, actOf}
-use Rattle.hub.specs.Names.{Named}
+use Rattle.rights.specs.Permits.{isTaken, isUnhelpable, permittedOf}
+use Rattle.hub.specs.Acts.{allowedOf, grantOf, carriedOut, actOf}
+use Rattle.rights.specs.Names.{Named}
 use Rattle.hub.specs.Desk.{deskOf}
 use Rattle.hub.specs.Deeds.{Deed, withCircuits}
-use Rattle.hub.proofs.Meaning.{none-found, found-none}
+use Rattle.rights.proofs.Meaning.{none-found, found-none}
 use Rattle.hub.proofs.Writing.{length-reply}
 use Rattle.hub.proofs.Given.{Allowed, granted, grant-sized}
 use Rattle.hub.proofs.Called.{length-rows, row-outside, row-inside, named-or, act-of, call-accepted}

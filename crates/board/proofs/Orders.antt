@@ -23,7 +23,7 @@ use Rattle.arrival.specs.Calls.{Apart, Separate, Merged, stateAfter, answersOf,
 use Rattle.arrival.specs.Totals.{Totals, touched}
 use Rattle.arrival.proofs.Isolation.{merges-size-alike, state-so-far, answer-so-far, merges-answer-alike, merges-end-alike, merge-answers-alone}
 use Rattle.arrival.proofs.Settled.{settled, merges-total-alike}
-use Rattle.hub.specs.Tables.{Tables, tables}
+use Rattle.rights.specs.Tables.{Tables, tables}
 use Rattle.hub.specs.Acts.{actOf}
 use Rattle.hub.specs.Deeds.{Deed, deed, withCircuits}
 use Rattle.hub.specs.Arrival.{Event, heard, ours, Call, partyOf, doneBy, holdsOf, hub}

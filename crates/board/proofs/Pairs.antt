@@ -21,10 +21,10 @@ use Rattle.asks.proofs.Judged.{ask-judges}
 use Rattle.arrival.specs.Calls.{stateAfter, answers}
 use Rattle.arrival.specs.Pair.{Local}
 use Rattle.arrival.proofs.Pair.{same-rows, same-totals, same-first, same-second}
-use Rattle.hub.specs.Tables.{Tables, tables, sized}
+use Rattle.rights.specs.Tables.{Tables, tables, sized}
 use Rattle.hub.specs.Acts.{After, after, grantOf, actOf}
-use Rattle.hub.specs.Names.{Names}
-use Rattle.hub.specs.Faults.{WrongTables}
+use Rattle.rights.specs.Names.{Names}
+use Rattle.rights.specs.Faults.{WrongTables}
 use Rattle.hub.specs.Arrival.{Event, heard, ours, Call, doneBy, Reply}
 use Rattle.hub.proofs.Called.{act-keeps, untouched}
 use Rattle.hub.proofs.Local.{local-answer, local-buffer, local-rows}

@@ -13,8 +13,9 @@ use Rattle.octets.proofs.Answer.{accepted-same}
 use Rattle.totals.specs.Blocks.{blockCount, recounted}
 use Rattle.totals.proofs.Recounted.{recounted-named}
 use Rattle.octets.specs.Sum.{total}
-use Rattle.hub.specs.Tables.{Tables, tables}
-use Rattle.layout.specs.Container.{variableSlot, optionalSlot, sharesOf, judged, held, containerOf, partsOf}
+use Rattle.rights.specs.Tables.{Tables, tables}
+use Rattle.layout.specs.Container.{variableSlot, optionalSlot, containerOf, partsOf}
+use Rattle.parts.specs.Overlap.{sharesOf, judged, held}
 use Rattle.isup.specs.Table.{shapeOf}
 use Rattle.isup.specs.Read.{readOf}
 use Rattle.isup.specs.Types.{BLO}
@@ -22,7 +23,7 @@ use Rattle.rows.specs.declared.Act.the-variants.{Block}
 use Rattle.asks.specs.declared.Ask.{Ask}
 use Rattle.asks.specs.Types.{actFor}
 use Rattle.asks.specs.Asks.{oneAsk, askedIn, askOf}
-use Rattle.hub.specs.Names.{Names}
+use Rattle.rights.specs.Names.{Names}
 use Rattle.hub.specs.Arrival.{heard, Reply}
 use Rattle.hub.proofs.Refutations.{block, block-asks, rows, owned, seizedBy, helperBlocks, shared, blocked-then-seized}
 use Rattle.board.specs.Board.{BoardAfter, boardAfter, boardOf}

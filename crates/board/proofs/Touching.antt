@@ -14,9 +14,9 @@ use Rattle.rows.specs.Rows.{local, changedRow, rowOf}
 use Rattle.asks.specs.declared.Ask.{Ask}
 use Rattle.asks.specs.Asks.{askIn, askOf, markOf}
 use Rattle.asks.proofs.Reading.{asked-is, ask-read, ask-last}
-use Rattle.hub.specs.Tables.{tables}
+use Rattle.rights.specs.Tables.{tables}
 use Rattle.hub.specs.Rows.{rowsAfter}
-use Rattle.hub.specs.Names.{Named}
+use Rattle.rights.specs.Names.{Named}
 use Rattle.hub.proofs.Called.{row-outside, row-inside, act-of, call-accepted}
 use Rattle.board.specs.Board.{BoardAfter, boardOf}
 use Rattle.board.specs.Arrival.{Standings, leftIn}

@@ -6,7 +6,7 @@ use Rattle.octets.specs.Octet.{octet}
 use Rattle.octets.specs.Answer.{Answer}
 use Rattle.asks.specs.Asks.{askOf}
 use Rattle.arrival.specs.Calls.{Calls}
-use Rattle.hub.specs.Tables.{tables}
+use Rattle.rights.specs.Tables.{tables}
 use Rattle.hub.specs.Deeds.{Deed, withCircuits}
 use Rattle.hub.specs.Arrival.{Event, heard, ours, Call, partyOf, Reply, holdsOf}
 use Rattle.board.specs.Board.{BoardAfter, alone, boardOf, deskBoardOf}

@@ -8,7 +8,7 @@ use Rattle.octets.specs.Choice.{if_then_else_}
 use Rattle.octets.specs.Answer.{Answer, accepted, refused}
 use Rattle.totals.specs.Blocks.{recounted}
 use Rattle.asks.specs.Asks.{askOf}
-use Rattle.hub.specs.Tables.{Tables}
+use Rattle.rights.specs.Tables.{Tables}
 use Rattle.hub.specs.Acts.{After, actOf}
 use Rattle.hub.specs.Desk.{deskOf}
 use Rattle.hub.specs.Deeds.{Deed, deed, withCircuits}

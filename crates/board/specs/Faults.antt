@@ -7,8 +7,9 @@ use lib.ListN.{length}
 use Rattle.octets.specs.Octet.{octet}
 use Rattle.octets.specs.Faults.{Fault, fault}
 use Rattle.rows.specs.Rows.{Legal}
-use Rattle.hub.specs.Tables.{Tables}
-use Rattle.hub.specs.Faults.{WrongTables, pastTables}
+use Rattle.rights.specs.Tables.{Tables}
+use Rattle.rights.specs.Faults.{WrongTables}
+use Rattle.hub.specs.Faults.{pastTables}
 
 -- 16: not 64 totals
 abbrev pub WrongTotals : List ℕ → Type 0

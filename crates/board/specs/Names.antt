@@ -9,7 +9,7 @@ use Rattle.octets.specs.Choice.{if_then_else_}
 use Rattle.octets.specs.Answer.{Answer, accepted, refused}
 use Rattle.asks.specs.declared.Ask.{Ask}
 use Rattle.asks.specs.Asks.{askOf}
-use Rattle.hub.specs.Names.{Names}
+use Rattle.rights.specs.Names.{Names}
 use Rattle.hub.specs.Arrival.{Event, heard, ours}
 use Rattle.board.specs.Arrival.{Standings}
 

@@ -17,8 +17,8 @@ use Rattle.totals.specs.Question.{busyBetween}
 use Rattle.totals.proofs.Counting.{rebuild-done}
 use Rattle.totals.proofs.Judged.{rebuild-right, rebuild-keeps}
 use Rattle.words.specs.Said.{said}
-use Rattle.requests.specs.Kinds.{FieldSays}
-use Rattle.requests.specs.Rows.{BUSY, TOTALS, TOTAL, REBUILD}
+use Rattle.fields.specs.Kinds.{FieldSays}
+use Rattle.forms.specs.Rows.{BUSY, TOTALS, TOTAL, REBUILD}
 use Rattle.requests.specs.Words.{numberAt, octetAt}
 use Rattle.lines.specs.Lines.{shown, refusal}
 use Rattle.busy_lines.specs.Busy.{busyLine, rebuildLine, busyAfter, rebuilt, busyDone}

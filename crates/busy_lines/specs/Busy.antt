@@ -10,8 +10,8 @@ use Rattle.totals.specs.Blocks.{rebuildOf}
 use Rattle.totals.specs.Question.{busyBetween}
 use Rattle.words.specs.Said.{said}
 use Rattle.printing.specs.Sheet.{Sheet, pour}
-use Rattle.requests.specs.Kinds.{FieldSays}
-use Rattle.requests.specs.Rows.{BUSY, TOTALS, TOTAL}
+use Rattle.fields.specs.Kinds.{FieldSays}
+use Rattle.forms.specs.Rows.{BUSY, TOTALS, TOTAL}
 use Rattle.requests.specs.Words.{numberAt, octetAt}
 use Rattle.lines.specs.Lines.{counted, shown, refusal}
 

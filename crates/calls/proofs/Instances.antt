@@ -25,13 +25,14 @@ use Rattle.bicc.specs.Faults.{callFaults, callWriteFaults}
 use Rattle.bicc.proofs.Exactly.{read-exactly}
 use Rattle.bicc.proofs.Judged.{read-judges, write-judges}
 use Rattle.bicc.proofs.Places.{read-places-within, write-placeless}
-use Rattle.llachurep.specs.Boundary.{given, givenBy, SmallParts}
-use Rattle.llachurep.specs.Refuses.{Refuses}
+use Rattle.telling.specs.Telling.{In16Bits}
+use Rattle.boundary.specs.Boundary.{given, givenBy, SmallParts}
+use Rattle.boundary.specs.Refuses.{Refuses}
 use Rattle.calls.specs.Calls.{callValuesOf, callReadGives, callReadGivesFaults}
-use Rattle.llachurep.proofs.Small.{whole-done, roomy}
-use Rattle.llachurep.proofs.Places.{room-placeless}
-use Rattle.llachurep.proofs.Numbers.{AtLeastOne, FromOne, message-from-one, shape-from-one}
-use Rattle.llachurep.proofs.Refused.{by-32-wide}
+use Rattle.boundary.proofs.Small.{whole-done, roomy}
+use Rattle.boundary.proofs.Places.{room-placeless}
+use Rattle.boundary.proofs.Numbers.{AtLeastOne, FromOne, message-from-one, shape-from-one}
+use Rattle.boundary.proofs.Refused.{by-32-wide}
 
 -- ---- each way in which reading ends
 module _ (m parts : List ℕ) where
@@ -71,6 +72,10 @@ unfolding callWriteOf callWriteIn
 call-write-small code kind fixed first second run buffer n e =
     let r = roomy buffer (callWriteIn code kind fixed first second run) e in
     family.written-small bicc (callOrderOf code kind fixed first second run) n (r .0) (r .1)
+
+-- so its answer goes into 16 bits
+pub call-write-fits : (code kind : ℕ) (fixed first second run buffer : List ℕ) → In16Bits (callWriteOf code kind fixed first second run buffer .answer)
+call-write-fits code kind fixed first second run buffer = (λ n q. omega (arith, call-write-small code kind fixed first second run buffer n q), λ n at q. omega (arith, write-placeless code kind fixed first second run buffer n at q))
 
 -- a refusal is about octet 270 at the most
 pub call-read-place : (m parts : List ℕ) (n at : ℕ) → callReadGives m parts .answer ≡ refused n at → at ≤ 270

@@ -8,7 +8,7 @@ use Rattle.octets.specs.Filled.{Done, done, roomFor}
 use Rattle.bicc.specs.declared.Message.{Message}
 use Rattle.bicc.specs.Read.{callReadOf}
 use Rattle.bicc.specs.Faults.{callFaults}
-use Rattle.llachurep.specs.Boundary.{placesOf}
+use Rattle.boundary.specs.Boundary.{placesOf}
 
 -- code, type, then start and length of the fixed part, of the first and of the second contents, and of the optional run
 abbrev pub callValuesOf : Message → List ℕ

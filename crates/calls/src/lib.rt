@@ -1,27 +1,16 @@
-// BICC for C and Rust: reading and writing. With `llachurep`, `families` and `circuits` they are one library.
+// BICC for C and Rust: reading and writing. With `llachurep` and its like they are one library.
 // They are a crate of their own so that its object has one reader and one writer of parts, which the compiler puts where they are called.
 ghost use mathlib.Core.Path.{_≡_};
-ghost use Prim.Native.Nat.{ℕ, _+_, _*_, _≤_};
+ghost use Prim.Native.Nat.{_≤_};
 ghost use lib.ListN.{length};
-ghost use Rattle.octets.specs.Answer.{accepted, refused};
 ghost use Rattle.octets.specs.Filled.{filled};
-ghost use Rattle.octets.specs.Told.{writtenTold};
-ghost use Rattle.layout.specs.Spans.{spanSize};
+ghost use Rattle.parts.specs.Spans.{spanSize};
 ghost use Rattle.bicc.specs.Write.{callWriteOf};
-ghost use Rattle.llachurep.specs.Boundary.{packed, given, givenBy, fixedStart, SmallParts};
+ghost use Rattle.boundary.specs.Boundary.{given, givenBy, fixedStart, SmallParts};
 ghost use Rattle.calls.specs.Calls.{callValuesOf, callReadGives};
 use bicc::Message;
 use bicc::Reading;
-use layout::Span;
-use octets::Written;
-
-// A refusal's number and the octet that it is about, as an answer.
-fn refusal(number: u8, place: usize) -> u32
-    requires { ⌜ place ≤ 65535 ⌝ }
-    ensures { λ r. ⌜ r ≡ 65536 * number + place ⌝ }
-{
-    65536 * number as u32 + place as u32
-}
+use parts::Span;
 
 // How many octets a span has.
 fn size_of(span: Span) -> u32
@@ -68,26 +57,15 @@ fn put_call_values(x: Message, parts: &mut [u32])
 pub extern "C" fn llachurep_bicc_read(message: &[u8], parts: &mut [u32]) -> u32
     ensures { λ r. ⌜ given r (now (parts .exit)) ≡ givenBy (callReadGives (now (message .entry)) (now (parts .entry))) ⌝ }
 {
-    match bicc::read(message) {
-        Reading::Refused(n, at) => refusal(n, at),
+    match bicc_codec::read(message) {
+        Reading::Refused(n, at) => telling::refusal(n, at),
         Reading::Read(x) => {
             if parts.len() < 10 {
-                return refusal(13, 0);
+                return telling::refusal(13, 0);
             }
             put_call_values(x, parts);
             10
         }
-    }
-}
-
-// What all that fill a lent buffer answer, as one number.
-fn written(answer: Written) -> u32
-    requires { ⌜ ((n : ℕ) → writtenTold answer ≡ accepted n → n ≤ 65535) × ((n at : ℕ) → writtenTold answer ≡ refused n at → at ≤ 65535) ⌝ }
-    ensures { λ r. ⌜ r ≡ packed (writtenTold answer) ⌝ }
-{
-    match answer {
-        Written::Octets(n) => n as u32,
-        Written::Refused(n, at) => refusal(n, at),
     }
 }
 
@@ -104,5 +82,5 @@ pub extern "C" fn llachurep_bicc_write(
 ) -> u32
     ensures { λ r. ⌜ given r (now (out .exit)) ≡ givenBy (callWriteOf code kind (now (fixed .entry)) (now (first .entry)) (now (second .entry)) (now (optional .entry)) (now (out .entry))) ⌝ }
 {
-    written(bicc::write(code, kind, fixed, first, second, optional, out))
+    telling::written(bicc_codec::write(code, kind, fixed, first, second, optional, out))
 }

@@ -7,10 +7,10 @@ use Rattle.octets.proofs.Places.{each-append}
 use Rattle.isup.specs.Table.{shapeOf}
 use Rattle.isup.specs.Faults.{readerFaults}
 use Rattle.asks.specs.Faults.{askFaults}
-use Rattle.hub.specs.Tables.{Tables}
+use Rattle.rights.specs.Tables.{Tables}
 use Rattle.hub.specs.Faults.{actFaults}
 use Rattle.hub.specs.Desk.{deskFaults}
-use Rattle.llachurep.proofs.Numbers.{AtLeastOne, FromOne, message-from-one}
+use Rattle.boundary.proofs.Numbers.{AtLeastOne, FromOne, message-from-one}
 
 -- the hub's
 pub act-from-one : (T : Tables) (sender : ℕ) (m : List ℕ) (room : ℕ) → FromOne (actFaults T sender m room)

@@ -1,10 +1,8 @@
--- The tables of circuits at the boundary: what a call gives with the totals kept, and what a question gives.
-use Prim.Native.Nat.{ℕ, _+_, _*_}
+-- The tables of circuits at the boundary: what a call gives with the totals kept.
+use Prim.Native.Nat.{ℕ}
 use mathlib.Core.List.{List}
-use Rattle.octets.specs.Answer.{Answer, accepted, refused}
-use Rattle.totals.specs.declared.Count.{Count}
 use Rattle.board.specs.Board.{BoardAfter}
-use Rattle.llachurep.specs.Boundary.{packed}
+use Rattle.telling.specs.Telling.{packed}
 
 -- a number, and what the states, the totals and the answer buffer hold afterwards
 pub record Called : Type 0 where
@@ -20,8 +18,3 @@ called value states totals buffer = record { value = value; states = states; tot
 -- what a call gives: its answer as one number, and the three lists
 abbrev pub calledBy : BoardAfter → Called
 calledBy c = called (packed (c .answer)) (c .states) (c .totals) (c .buffer)
-
--- a question: 4294967296 * N + 65536 * looked + count
-abbrev pub packedCount : Answer Count → ℕ
-packedCount (accepted c) = 65536 * c .looked + c .count
-packedCount (refused n at) = 4294967296 * n

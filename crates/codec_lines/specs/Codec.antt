@@ -9,8 +9,8 @@ use Rattle.isup.specs.Table.{shapeOf}
 use Rattle.isup.specs.Read.{readOf}
 use Rattle.finding.specs.Find.{Spot, locateOf}
 use Rattle.isup.specs.Write.{writeOf, compactOf}
-use Rattle.requests.specs.Kinds.{FieldSays}
-use Rattle.requests.specs.Rows.{SHAPE, READ, WRITE, COMPACT}
+use Rattle.fields.specs.Kinds.{FieldSays}
+use Rattle.forms.specs.Rows.{SHAPE, READ, WRITE, COMPACT}
 use Rattle.requests.specs.Words.{numberAt, octetAt, octetsAt}
 use Rattle.lines.specs.Lines.{shown, faultLine, octetsLine, compactLine, lent}
 use Rattle.read_lines.specs.Read.{shapeLine, readLine}

@@ -11,14 +11,14 @@ ghost use Rattle.requests.specs.Words.{numberAt, octetsAt};
 ghost use Rattle.requests.specs.Along.{saidIn};
 ghost use Rattle.lines.specs.Lines.{octetsLine, againLine, compactLine, lent};
 ghost use Rattle.codec_lines.specs.Codec.{foundLine, codecLine};
+use fields::Field;
 use finding::Located;
+use forms::COMPACT;
+use forms::READ;
+use forms::SHAPE;
+use forms::WRITE;
 use octets::Written;
-use requests::COMPACT;
-use requests::Field;
-use requests::READ;
 use requests::Request;
-use requests::SHAPE;
-use requests::WRITE;
 
 // Writes a message by its fields, and says what was written.
 fn say_write(fields: [Field; 8], octets: &[u8], out: &mut [u8]) -> usize
@@ -35,18 +35,18 @@ fn say_write(fields: [Field; 8], octets: &[u8], out: &mut [u8]) -> usize
     let second = fields[4];
     let optional = fields[5];
     let room = fields[6];
-    let mut space = lines::blank_space();
-    let buffer = lines::front(&mut space, room.value as usize);
-    let written = isup::write(
+    let mut space = pieces::blank_space();
+    let buffer = pieces::front(&mut space, room.value as usize);
+    let written = isup_codec::write(
         circuit.value,
         kind.value,
-        lines::stretch(octets, fixed.from, fixed.count as usize),
-        lines::stretch(octets, first.from, first.count as usize),
-        lines::stretch(octets, second.from, second.count as usize),
-        lines::stretch(octets, optional.from, optional.count as usize),
+        pieces::stretch(octets, fixed.from, fixed.count as usize),
+        pieces::stretch(octets, first.from, first.count as usize),
+        pieces::stretch(octets, second.from, second.count as usize),
+        pieces::stretch(octets, optional.from, optional.count as usize),
         buffer,
     );
-    lines::say_written(written, buffer, out)
+    sayings::say_written(written, buffer, out)
 }
 
 // What was written again to the front of a buffer, or the reader's refusal with its octet.
@@ -55,8 +55,10 @@ fn say_again(written: Written, buffer: &[u8], out: &mut [u8]) -> usize
     ensures { λ r. ⌜ sheet (now (out .exit)) r ≡ pour (sheet (now (out .entry)) 0) (againLine (writtenTold written) (now (buffer .entry))) ⌝ }
 {
     match written {
-        Written::Octets(n) => { lines::put_shown(b"octets ", lines::stretch(buffer, 0, n), out, 0) }
-        Written::Refused(n, at) => lines::say_fault(n, at as u32, out),
+        Written::Octets(n) => {
+            sayings::put_shown(b"octets ", pieces::stretch(buffer, 0, n), out, 0)
+        }
+        Written::Refused(n, at) => sayings::say_fault(n, at as u32, out),
     }
 }
 
@@ -67,10 +69,10 @@ fn say_compact(fields: [Field; 8], octets: &[u8], out: &mut [u8]) -> usize
 {
     let message = fields[0];
     let room = fields[1];
-    let mut space = lines::blank_space();
-    let buffer = lines::front(&mut space, room.value as usize);
-    let written = isup::compact(
-        lines::stretch(octets, message.from, message.count as usize),
+    let mut space = pieces::blank_space();
+    let buffer = pieces::front(&mut space, room.value as usize);
+    let written = isup_codec::compact(
+        pieces::stretch(octets, message.from, message.count as usize),
         buffer,
     );
     say_again(written, buffer, out)
@@ -83,12 +85,12 @@ fn say_located(located: Located, message: &[u8], defaults: &[u8], out: &mut [u8]
 {
     match located {
         Located::Message(at, len) => {
-            lines::put_shown(b"message ", lines::stretch(message, at, len), out, 0)
+            sayings::put_shown(b"message ", pieces::stretch(message, at, len), out, 0)
         }
         Located::Defaults(at, len) => {
-            lines::put_shown(b"defaults ", lines::stretch(defaults, at, len), out, 0)
+            sayings::put_shown(b"defaults ", pieces::stretch(defaults, at, len), out, 0)
         }
-        Located::Refused(n, at) => lines::say_fault(n, at as u32, out),
+        Located::Refused(n, at) => sayings::say_fault(n, at as u32, out),
     }
 }
 
@@ -101,9 +103,9 @@ fn say_find(fields: [Field; 8], octets: &[u8], out: &mut [u8]) -> usize
     let name = fields[0];
     let message_field = fields[1];
     let defaults_field = fields[2];
-    let message = lines::stretch(octets, message_field.from, message_field.count as usize);
-    let defaults = lines::stretch(octets, defaults_field.from, defaults_field.count as usize);
-    let located = finding::locate(message, defaults, name.value);
+    let message = pieces::stretch(octets, message_field.from, message_field.count as usize);
+    let defaults = pieces::stretch(octets, defaults_field.from, defaults_field.count as usize);
+    let located = locating::locate(message, defaults, name.value);
     say_located(located, message, defaults, out)
 }
 
@@ -114,12 +116,12 @@ pub fn codec_line(request: Request, octets: &[u8], out: &mut [u8]) -> usize
     let fields = request.fields;
     if request.which == SHAPE {
         let kind = fields[0];
-        return read_lines::say_shape((kind.value % 256) as u8, out);
+        return shape_lines::say_shape((kind.value % 256) as u8, out);
     }
     if request.which == READ {
         let message = fields[0];
-        return read_lines::say_read(
-            lines::stretch(octets, message.from, message.count as usize),
+        return message_lines::say_read(
+            pieces::stretch(octets, message.from, message.count as usize),
             out,
         );
     }

@@ -5,12 +5,12 @@ use mathlib.Core.List.{List}
 use borrow.Author.Tests.{lt-ltb, le-ltb}
 use lib.ListN.{length}
 use Rattle.octets.specs.Answer.{Answer}
-use Rattle.layout.specs.declared.Body.{Body}
-use Rattle.layout.specs.declared.Body.the-variants.{Laid, Broken}
-use Rattle.layout.specs.declared.Parts.{Parts}
+use Rattle.parts.specs.declared.Body.{Body}
+use Rattle.parts.specs.declared.Body.the-variants.{Laid, Broken}
+use Rattle.parts.specs.declared.Parts.{Parts}
 use Rattle.layout.specs.declared.Row.{Row}
 use Rattle.layout.specs.Container.{kindAt, partsOf}
-use Rattle.layout.specs.Told.{bodyTold}
+use Rattle.parts.specs.Told.{bodyTold}
 use Rattle.family.specs.Family.{Family, readIn}
 use Rattle.family.specs.Steps.{startBy, startIn}
 use Rattle.cursor.specs.Start.{refusalBy}

@@ -4,7 +4,7 @@ use mathlib.Core.Path.{_≡_, refl, sym, _∙_, subst}
 use mathlib.Core.List.{List, [], _∷_}
 use denote.Ref.{RefT, now}
 use Rattle.octets.specs.Answer.{refused}
-use Rattle.layout.specs.declared.Parts.{Parts}
+use Rattle.parts.specs.declared.Parts.{Parts}
 use Rattle.family.specs.declared.Offer.{Offer}
 use Rattle.family.specs.Family.{Family, readIn}
 use Rattle.family.specs.Forms.{FamilyFormed}

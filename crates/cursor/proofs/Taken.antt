@@ -9,7 +9,7 @@ use Rattle.octets.specs.Answer.{Answer, accepted, refused}
 use Rattle.octets.proofs.Places.{Each, refusal-so}
 use Rattle.layout.specs.declared.Row.{Row}
 use Rattle.layout.specs.declared.Row.the-variants.{Has, Unknown}
-use Rattle.layout.specs.declared.Parts.{Parts}
+use Rattle.parts.specs.declared.Parts.{Parts}
 use Rattle.layout.specs.Faults.{rowFaults}
 use Rattle.family.specs.Family.{Family, readIn}
 use Rattle.family.specs.Faults.{familyFaults}

@@ -4,7 +4,7 @@ use mathlib.Core.Path.{_≡_, refl, _∙_}
 use mathlib.Core.Bool.{Bool, true, false}
 use mathlib.Core.List.{List}
 use lib.ListN.{length, replicate, length-set}
-use Rattle.hub.specs.Tables.{tables}
+use Rattle.rights.specs.Tables.{tables}
 use Rattle.hub.proofs.Called.{states-length}
 use Rattle.day.specs.Hub.{Rows, heardOf, unhelped}
 use Rattle.day.specs.Day.{Day, countedIf, heardIn, sizedBy, daySized}

@@ -11,7 +11,7 @@ use lib.ListN.{length, take, set, replicate, replicate-append-replicate}
 use lib.Seq.{take-suc-set, take-all}
 use Rattle.octets.specs.Choice.{if_then_else_}
 use Rattle.octets.specs.declared.Written.the-variants.{Refused, Octets}
-use Rattle.hub.specs.Tables.{tables}
+use Rattle.rights.specs.Tables.{tables}
 use Rattle.hub.specs.Acts.{after, actOf}
 use Rattle.hub.proofs.Unhelped.{owners-help-none}
 use Rattle.book.specs.declared.Await.the-variants.{SpanCount, Bad}

@@ -6,7 +6,7 @@ use lib.ListN.{length, replicate}
 use Rattle.octets.specs.Octet.{octet}
 use mathlib.Core.Bool.{Bool, true, false}
 use Rattle.octets.specs.Answer.{Answer, accepted, refused}
-use Rattle.hub.specs.Tables.{tables}
+use Rattle.rights.specs.Tables.{tables}
 use Rattle.hub.specs.Acts.{After, actOf}
 
 -- what the hub's calls change

@@ -4,13 +4,14 @@
 use libc::STDERR_FILENO;
 use libc::STDIN_FILENO;
 use libc::STDOUT_FILENO;
+ghost use Rattle.io.specs.Counts.{Counts};
 
 // The descriptor at which a fault is told: `./desk` makes a status of it.
 const STATUS_FILENO: i32 = 3;
 
-// How reading goes on: more may come; the input has ended; it could not be read.
-enum Input {
-    More,
+// What came: an octet; nothing, for the input has ended; nothing, for it could not be read.
+enum Came {
+    Octet(u8),
     Ended,
     Unread,
 }
@@ -21,33 +22,14 @@ fn tell(fault: &[u8]) {
     io::write_all(STATUS_FILENO, b"1");
 }
 
-// Answers the first `length` octets of `line`, which are a line, and writes the answer; whether it was written.
-fn serve(
-    line: &[u8],
-    length: usize,
-    states: &mut [u8],
-    owners: &mut [u8],
-    helpers: &mut [u8],
-    totals: &mut [u8],
-    ticks: &mut [u8],
-    scratch: &mut [u8],
-    out: &mut [u8],
-) -> bool {
-    if length <= line.len() {
-        let n = answers::answer(
-            &line[0..length],
-            states,
-            owners,
-            helpers,
-            totals,
-            ticks,
-            scratch,
-            out,
-        );
-        if n <= out.len() {
-            return io::write_all(STDOUT_FILENO, &out[0..n]);
+// Writes the first n octets of an answer. Where they cannot be written, that is told, and the desk ends; else it goes on where there is more to read.
+fn write_out(out: &[u8], n: usize, more: bool) -> bool {
+    if n <= out.len() {
+        if io::write_all(STDOUT_FILENO, &out[0..n]) {
+            return more;
         }
     }
+    tell(b"desk: an answer could not be written, and the desk ends there\n");
     false
 }
 
@@ -63,227 +45,86 @@ fn without_cr(line: &[u8], length: usize) -> usize {
     length
 }
 
-// Takes in an octet: an LF ends the line, which is answered; any other is kept in `line`. Answers how much of the line there is.
-fn take_octet(
-    octet: u8,
-    line: &mut [u8],
-    held: usize,
-    states: &mut [u8],
-    owners: &mut [u8],
-    helpers: &mut [u8],
-    totals: &mut [u8],
-    ticks: &mut [u8],
-    scratch: &mut [u8],
-    out: &mut [u8],
-    written: &mut bool,
-) -> usize {
-    if octet == b'\n' {
-        *written = serve(
-            line,
-            without_cr(line, held),
-            states,
-            owners,
-            helpers,
-            totals,
-            ticks,
-            scratch,
-            out,
-        );
-        return 0;
-    }
-    printing::put_octet(octet, line, held)
-}
-
-// Takes in what was read, up to an answer that could not be written; answers how much there is of the line that has not ended.
-fn take_in(
-    chunk: &[u8],
-    line: &mut [u8],
-    held: usize,
-    states: &mut [u8],
-    owners: &mut [u8],
-    helpers: &mut [u8],
-    totals: &mut [u8],
-    ticks: &mut [u8],
-    scratch: &mut [u8],
-    out: &mut [u8],
-    written: &mut bool,
-) -> usize {
-    let mut length = held;
-    let mut i = 0;
-    while i < chunk.len() {
-        if !*written {
-            return length;
+// The octet at `at`, which is then the next place, where it is one of those up to `end`.
+fn octet_at(chunk: &[u8], at: &mut usize, end: usize) -> Came {
+    let i = *at;
+    if i < end {
+        if i < chunk.len() {
+            *at = i + 1;
+            return Came::Octet(chunk[i]);
         }
-        length = take_octet(
-            chunk[i],
-            line,
-            length,
-            states,
-            owners,
-            helpers,
-            totals,
-            ticks,
-            scratch,
-            out,
-            written,
-        );
-        i += 1;
     }
-    length
+    Came::Ended
 }
 
-// Reads once, and takes in what came.
-fn read_some(
-    chunk: &mut [u8],
-    line: &mut [u8],
-    held: &mut usize,
-    states: &mut [u8],
-    owners: &mut [u8],
-    helpers: &mut [u8],
-    totals: &mut [u8],
-    ticks: &mut [u8],
-    scratch: &mut [u8],
-    out: &mut [u8],
-    written: &mut bool,
-) -> Input {
+// The next octet of the input: of what was read and stands in `chunk` from `at` to `end`, or, where all that is taken, of what is read next.
+fn next_octet(chunk: &mut [u8], at: &mut usize, end: &mut usize) -> Came {
+    if *at < *end {
+        return octet_at(chunk, at, *end);
+    }
     let got = libc::read(STDIN_FILENO, chunk);
     if got < 0 {
-        return Input::Unread;
+        return Came::Unread;
     }
-    if got == 0 {
-        return Input::Ended;
-    }
-    let n = io::count(got, chunk);
-    *held = take_in(
-        &chunk[..n],
-        line,
-        *held,
-        states,
-        owners,
-        helpers,
-        totals,
-        ticks,
-        scratch,
-        out,
-        written,
-    );
-    Input::More
+    *at = 0;
+    *end = io::count(got, chunk);
+    octet_at(chunk, at, *end)
 }
 
-// Reads standard input to its end, or to a fault, and answers how much there is of a last line that has no LF: nothing after a fault of reading, since such a line may be cut off.
-fn read_all(
+// Puts the octets up to the next LF, or to the input's end, into `line`, and answers how many there are; a CR before the LF is left out.
+// At the input's end, and where it cannot be read, there is no more. Then a line that may be cut off is nothing, and the fault is told.
+fn next_line(
     chunk: &mut [u8],
+    at: &mut usize,
+    end: &mut usize,
     line: &mut [u8],
-    states: &mut [u8],
-    owners: &mut [u8],
-    helpers: &mut [u8],
-    totals: &mut [u8],
-    ticks: &mut [u8],
-    scratch: &mut [u8],
-    out: &mut [u8],
-    written: &mut bool,
+    more: &mut bool,
 ) -> usize {
     let mut held: usize = 0;
     let mut turns: u64 = 18446744073709551615;
     while 0 < turns {
-        match read_some(
-            chunk,
-            line,
-            &mut held,
-            states,
-            owners,
-            helpers,
-            totals,
-            ticks,
-            scratch,
-            out,
-            written,
-        ) {
-            Input::More => {}
-            Input::Ended => return held,
-            Input::Unread => {
+        match next_octet(chunk, at, end) {
+            Came::Octet(octet) => {
+                if octet == b'\n' {
+                    return without_cr(line, held);
+                }
+                held = printing::put_octet(octet, line, held);
+            }
+            Came::Ended => {
+                *more = false;
+                return held;
+            }
+            Came::Unread => {
+                *more = false;
                 tell(b"desk: standard input cannot be read\n");
                 return 0;
             }
         }
-        if !*written {
-            return 0;
-        }
         turns -= 1;
     }
-    held
+    *more = false;
+    0
 }
 
-// Answers a last line that has no LF, where there is one; whether all was written.
-fn serve_last(
-    line: &[u8],
-    held: usize,
-    written: bool,
-    states: &mut [u8],
-    owners: &mut [u8],
-    helpers: &mut [u8],
-    totals: &mut [u8],
-    ticks: &mut [u8],
-    scratch: &mut [u8],
-    out: &mut [u8],
-) -> bool {
-    if 0 < held {
-        return serve(
-            line,
-            held,
-            states,
-            owners,
-            helpers,
-            totals,
-            ticks,
-            scratch,
-            out,
-        );
+// How many octets of a line there are to answer: `held`, where the line is as long.
+fn within(line: &[u8], held: usize) -> usize
+    ensures { λ r. ⌜ Counts r (now (line .entry)) ⌝ }
+{
+    if held <= line.len() {
+        return held;
     }
-    written
+    0
 }
 
-// Answers standard input, a last line that has no LF too.
-fn run(
-    chunk: &mut [u8],
-    line: &mut [u8],
-    states: &mut [u8],
-    owners: &mut [u8],
-    helpers: &mut [u8],
-    totals: &mut [u8],
-    ticks: &mut [u8],
-    scratch: &mut [u8],
-    out: &mut [u8],
-) {
-    let mut written = true;
-    let held = read_all(
-        chunk,
-        line,
-        states,
-        owners,
-        helpers,
-        totals,
-        ticks,
-        scratch,
-        out,
-        &mut written,
-    );
-    if !serve_last(
-        line,
-        held,
-        written,
-        states,
-        owners,
-        helpers,
-        totals,
-        ticks,
-        scratch,
-        out,
-    ) {
-        tell(b"desk: an answer could not be written, and the desk ends there\n");
+// Whether there is no line to answer: none is left, and nothing is held of a last one.
+fn is_over(more: bool, held: usize) -> bool {
+    if more {
+        return false;
     }
+    held == 0
 }
 
+// Answers standard input line by line, a last line that has no LF too.
 fn main() {
     let mut states = io::buffer();
     let mut owners = io::buffer();
@@ -294,15 +135,29 @@ fn main() {
     let mut line = [0u8; 98304];
     let mut scratch = io::large_buffer();
     let mut out = [0u8; 81920];
-    run(
-        &mut chunk,
-        &mut line,
-        &mut states,
-        &mut owners,
-        &mut helpers,
-        &mut totals,
-        &mut ticks,
-        &mut scratch,
-        &mut out,
-    );
+    let mut at: usize = 0;
+    let mut end: usize = 0;
+    let mut more = true;
+    let mut turns: u64 = 18446744073709551615;
+    while 0 < turns {
+        let held = next_line(&mut chunk, &mut at, &mut end, &mut line, &mut more);
+        if is_over(more, held) {
+            break;
+        }
+        let length = within(&line, held);
+        let n = answers::answer(
+            &line[..length],
+            &mut states,
+            &mut owners,
+            &mut helpers,
+            &mut totals,
+            &mut ticks,
+            &mut scratch,
+            &mut out,
+        );
+        if !write_out(&out, n, more) {
+            break;
+        }
+        turns -= 1;
+    }
 }

@@ -19,11 +19,12 @@ use Rattle.bicc.specs.Write.{callCompactIn, callCompactOf}
 use Rattle.bicc.specs.Faults.{callFaults, callCompactFaults}
 use Rattle.bicc.proofs.Judged.{compact-judges}
 use Rattle.bicc.proofs.Places.{compact-places-within}
-use Rattle.llachurep.specs.Boundary.{given, givenBy}
-use Rattle.llachurep.specs.Refuses.{Refuses}
-use Rattle.llachurep.proofs.Small.{roomy}
-use Rattle.llachurep.proofs.Numbers.{AtLeastOne, message-from-one}
-use Rattle.llachurep.proofs.Refused.{by-32-wide}
+use Rattle.telling.specs.Telling.{In16Bits}
+use Rattle.boundary.specs.Boundary.{given, givenBy}
+use Rattle.boundary.specs.Refuses.{Refuses}
+use Rattle.boundary.proofs.Small.{roomy}
+use Rattle.boundary.proofs.Numbers.{AtLeastOne, message-from-one}
+use Rattle.boundary.proofs.Refused.{by-32-wide}
 
 -- a message that is written again has 270 octets at the most
 pub call-compact-small : (m buffer : List ℕ) (n : ℕ) → callCompactOf m buffer .answer ≡ accepted n → n ≤ 270
@@ -32,6 +33,10 @@ call-compact-small m buffer n e =
     let r = roomy buffer (callCompactIn m) e in
     let t = then-accepted (readIn bicc m) (againIn m 4 270 (callShapeOf (kindAt m 4)) (octets m 0 4)) (r .1) in
     family.shape-small bicc (callShapeOf (kindAt m 4)) _ n (r .0) (t .2)
+
+-- so its answer goes into 16 bits
+pub call-compact-fits : (m buffer : List ℕ) → In16Bits (callCompactOf m buffer .answer)
+call-compact-fits m buffer = (λ n q. omega (arith, call-compact-small m buffer n q), λ n at q. omega (arith, compact-places-within m buffer n at q))
 
 pub call-compact-refuses : (m buffer : List ℕ) (r : ℕ) (left : List ℕ) → given r left ≡ givenBy (callCompactOf m buffer) → Refuses 65536 r (callCompactOf m buffer .answer) buffer left
 unfolding callCompactOf callCompactIn

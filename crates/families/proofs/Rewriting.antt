@@ -21,11 +21,12 @@ use Rattle.isup.specs.Faults.{readerFaults}
 use Rattle.isup.specs.WriteFaults.{compactFaults}
 use Rattle.isup.proofs.CompactAgain.{compact-judges}
 use Rattle.isup.proofs.Places.{compact-places-within}
-use Rattle.llachurep.specs.Boundary.{given, givenBy}
-use Rattle.llachurep.specs.Refuses.{Refuses}
-use Rattle.llachurep.proofs.Small.{roomy}
-use Rattle.llachurep.proofs.Numbers.{AtLeastOne, FromOne, message-from-one}
-use Rattle.llachurep.proofs.Refused.{by-32-wide}
+use Rattle.telling.specs.Telling.{In16Bits}
+use Rattle.boundary.specs.Boundary.{given, givenBy}
+use Rattle.boundary.specs.Refuses.{Refuses}
+use Rattle.boundary.proofs.Small.{roomy}
+use Rattle.boundary.proofs.Numbers.{AtLeastOne, FromOne, message-from-one}
+use Rattle.boundary.proofs.Refused.{by-32-wide}
 
 -- a message that is written again has 268 octets at the most
 pub compact-small : (m buffer : List ℕ) (n : ℕ) → compactOf m buffer .answer ≡ accepted n → n ≤ 268
@@ -34,6 +35,10 @@ compact-small m buffer n e =
     let r = roomy buffer (compactIn m) e in
     let t = then-accepted (readIn isup m) (againIn m 2 268 (shapeOf (kindAt m 2)) (headOf (circuitOf m))) (r .1) in
     family.shape-small isup (shapeOf (kindAt m 2)) _ n (r .0) (t .2)
+
+-- so its answer goes into 16 bits
+pub compact-fits : (m buffer : List ℕ) → In16Bits (compactOf m buffer .answer)
+compact-fits m buffer = (λ n q. omega (arith, compact-small m buffer n q), λ n at q. omega (arith, compact-places-within m buffer n at q))
 
 compact-from-one : (m buffer : List ℕ) → FromOne (compactFaults m buffer)
 unfolding compactIn

@@ -19,11 +19,12 @@ use Rattle.sccp.specs.Write.{sccpCompactIn, sccpCompactOf}
 use Rattle.sccp.specs.Faults.{sccpFaults, sccpCompactFaults}
 use Rattle.sccp.proofs.Judged.{compact-judges}
 use Rattle.sccp.proofs.Places.{compact-places-within}
-use Rattle.llachurep.specs.Boundary.{given, givenBy}
-use Rattle.llachurep.specs.Refuses.{Refuses}
-use Rattle.llachurep.proofs.Small.{roomy}
-use Rattle.llachurep.proofs.Numbers.{AtLeastOne, message-from-one}
-use Rattle.llachurep.proofs.Refused.{by-32-wide}
+use Rattle.telling.specs.Telling.{In16Bits}
+use Rattle.boundary.specs.Boundary.{given, givenBy}
+use Rattle.boundary.specs.Refuses.{Refuses}
+use Rattle.boundary.proofs.Small.{roomy}
+use Rattle.boundary.proofs.Numbers.{AtLeastOne, message-from-one}
+use Rattle.boundary.proofs.Refused.{by-32-wide}
 
 -- a message that is written again has 268 octets at the most
 pub sccp-compact-small : (m buffer : List ℕ) (n : ℕ) → sccpCompactOf m buffer .answer ≡ accepted n → n ≤ 268
@@ -32,6 +33,10 @@ sccp-compact-small m buffer n e =
     let r = roomy buffer (sccpCompactIn m) e in
     let t = then-accepted (readIn sccp m) (againIn m 0 268 (sccpShapeOf (kindAt m 0)) []) (r .1) in
     family.shape-small sccp (sccpShapeOf (kindAt m 0)) _ n (r .0) (t .2)
+
+-- so its answer goes into 16 bits
+pub sccp-compact-fits : (m buffer : List ℕ) → In16Bits (sccpCompactOf m buffer .answer)
+sccp-compact-fits m buffer = (λ n q. omega (arith, sccp-compact-small m buffer n q), λ n at q. omega (arith, compact-places-within m buffer n at q))
 
 pub sccp-compact-refuses : (m buffer : List ℕ) (r : ℕ) (left : List ℕ) → given r left ≡ givenBy (sccpCompactOf m buffer) → Refuses 65536 r (sccpCompactOf m buffer .answer) buffer left
 unfolding sccpCompactOf sccpCompactIn

@@ -13,13 +13,13 @@ use Rattle.octets.specs.Answer.{accepted, refused}
 use Rattle.octets.proofs.Answer.{refused-accepted, accepted-same, past-test}
 use Rattle.octets.proofs.Octet.{length-octets}
 use Rattle.layout.specs.declared.Shape.{Shape}
-use Rattle.layout.specs.declared.Parts.{Parts}
+use Rattle.parts.specs.declared.Parts.{Parts}
 use Rattle.layout.specs.declared.Row.{Row}
 use Rattle.layout.specs.declared.Row.the-variants.{Has, Unknown}
 use Rattle.layout.specs.Container.{kindAt}
 use Rattle.layout.specs.Gaps.{Agrees}
 use Rattle.layout.specs.Laid.{LaidOut}
-use Rattle.layout.specs.Spans.{partOf}
+use Rattle.parts.specs.Spans.{partOf}
 use Rattle.layout.proofs.Exactly.{parts-exactly, laid-params-unique}
 use Rattle.layout.proofs.Gaps.{gaps-ignored}
 use Rattle.runs.specs.Params.{Param, Params}

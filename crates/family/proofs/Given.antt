@@ -9,14 +9,14 @@ use Rattle.octets.specs.declared.Written.the-variants.{Refused}
 use Rattle.octets.specs.Told.{writtenTold}
 use Rattle.octets.proofs.Told.{writing-determined, writing-keeps}
 use Rattle.layout.specs.declared.Shape.{Shape}
-use Rattle.layout.specs.declared.Parts.{Parts}
+use Rattle.parts.specs.declared.Parts.{Parts}
 use Rattle.layout.specs.declared.Row.{Row}
 use Rattle.layout.specs.declared.Row.the-variants.{Has, Unknown}
-use Rattle.layout.specs.declared.Body.{Body}
-use Rattle.layout.specs.declared.Body.the-variants.{Laid, Broken}
+use Rattle.parts.specs.declared.Body.{Body}
+use Rattle.parts.specs.declared.Body.the-variants.{Laid, Broken}
 use Rattle.layout.specs.Container.{kindAt, partsOf}
-use Rattle.layout.specs.Spans.{partOf}
-use Rattle.layout.specs.Told.{bodyTold}
+use Rattle.parts.specs.Spans.{partOf}
+use Rattle.parts.specs.Told.{bodyTold}
 use Rattle.layout.proofs.Exactly.{Inside, parts-exactly, parts-inside}
 use Rattle.writing.specs.Write.{order, writtenOf, writePartsOf}
 use Rattle.family.specs.Family.{rewriteIn, rewriteOf}

@@ -15,7 +15,7 @@ use Rattle.octets.proofs.Answer.{accepted-same}
 use Rattle.octets.proofs.Filled.{judges-filled, room-judges}
 use Rattle.octets.proofs.Faults.{judges-done, judges-there, judges-absent, judges-if, judges-then, judges-choice}
 use Rattle.layout.specs.declared.Shape.{Shape}
-use Rattle.layout.specs.declared.Parts.{Parts}
+use Rattle.parts.specs.declared.Parts.{Parts}
 use Rattle.layout.specs.declared.Row.{Row}
 use Rattle.layout.specs.declared.Row.the-variants.{Has, Unknown}
 use Rattle.layout.specs.Container.{kindAt, partsOf}

@@ -15,7 +15,7 @@ use Rattle.octets.specs.Answer.{Answer, accepted, refused, _then_}
 use Rattle.octets.specs.Filled.{done, filled, leaving, roomFor}
 use Rattle.octets.proofs.Answer.{refused-accepted, refused-same}
 use Rattle.octets.proofs.Filled.{room-accepted, take-filled}
-use Rattle.layout.specs.declared.Parts.{Parts}
+use Rattle.parts.specs.declared.Parts.{Parts}
 use Rattle.writing.specs.Write.{Order, orderOctets}
 use Rattle.writing.specs.Compact.{saidWith, saidBy}
 use Rattle.writing.proofs.Shorter.{no-longer}

@@ -11,7 +11,7 @@ use Rattle.octets.specs.Answer.{Answer, accepted, refused, _then_}
 use Rattle.octets.specs.Filled.{roomFor}
 use Rattle.octets.proofs.Answer.{refused-accepted, refused-as}
 use Rattle.octets.proofs.Places.{UpTo, up-to-refused, up-to-if, up-to-room, up-to-done, handed-on, room-handed-on}
-use Rattle.layout.specs.declared.Parts.{Parts}
+use Rattle.parts.specs.declared.Parts.{Parts}
 use Rattle.layout.specs.declared.Row.{Row}
 use Rattle.layout.specs.declared.Row.the-variants.{Has, Unknown}
 use Rattle.layout.specs.Container.{kindAt, partsOf}

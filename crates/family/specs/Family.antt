@@ -5,7 +5,7 @@ use lib.Dec.{ltb}
 use Rattle.octets.specs.Choice.{if_then_else_}
 use Rattle.octets.specs.Answer.{Answer, refused, _then_}
 use Rattle.octets.specs.Filled.{Done, done, roomFor}
-use Rattle.layout.specs.declared.Parts.{Parts}
+use Rattle.parts.specs.declared.Parts.{Parts}
 use Rattle.layout.specs.declared.Row.{Row}
 use Rattle.layout.specs.declared.Row.the-variants.{Has, Unknown}
 use Rattle.layout.specs.Container.{kindAt, partsOf}

@@ -3,7 +3,7 @@ use Prim.Native.Nat.{ℕ}
 use mathlib.Core.Path.{_≡_}
 use mathlib.Core.List.{List}
 use Rattle.octets.specs.Octet.{octet}
-use Rattle.layout.specs.declared.Parts.{Parts}
+use Rattle.parts.specs.declared.Parts.{Parts}
 use Rattle.layout.specs.Laid.{Framed}
 use Rattle.writing.specs.Compact.{Compact, saidWith, saidBy}
 use Rattle.family.specs.Family.{Family}

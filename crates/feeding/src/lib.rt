@@ -6,7 +6,7 @@ ghost use lib.ListN.{length, take};
 ghost use Rattle.octets.specs.Applied.{spread};
 ghost use Rattle.book.specs.Awaits.{wantOf};
 ghost use Rattle.day.specs.Day.{day, machine};
-ghost use Rattle.feeding.specs.Machine.{spanned, spannedOf, headCome, completed, stepOf, machineOf, fits, fedOf, Ready, storedOf, fed};
+ghost use Rattle.machine.specs.Machine.{spanned, spannedOf, headCome, completed, stepOf, machineOf, fits, fedOf, Ready, storedOf, fed};
 ghost use Rattle.octets.specs.Octet.{octet};
 use book::Await;
 use book::Place;
@@ -71,7 +71,7 @@ fn take_head(
         return Await::Bad;
     }
     if size == 0 {
-        day::heard_in(owners, states, accepted, refused, sender, nothing);
+        hearing::heard_in(owners, states, accepted, refused, sender, nothing);
         return book::entries_await(one_less(left));
     }
     Await::Body(left, sender, size)
@@ -112,7 +112,7 @@ fn complete(
             refused,
         ),
         Await::Body(left, sender, size) => {
-            day::heard_in(owners, states, accepted, refused, sender, &buffer[..size]);
+            hearing::heard_in(owners, states, accepted, refused, sender, &buffer[..size]);
             book::entries_await(one_less(left))
         }
         Await::Done => Await::Bad,
@@ -194,7 +194,7 @@ pub fn feed(
         fedOf place (now (buffer .entry)) (day (now (owners .entry)) (now (states .entry)) (now (accepted .entry)) (now (refused .entry))) (now (chunk .entry)) ⌝ }
 {
     let mut at = place;
-    if !day::sized(owners.len(), states.len(), accepted.len(), refused.len()) {
+    if !opening::sized(owners.len(), states.len(), accepted.len(), refused.len()) {
         return Place {
             awaits: Await::Bad,
             held: 0,

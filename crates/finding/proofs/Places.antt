@@ -7,7 +7,7 @@ use native.Mathlib.Omega.{arith}
 use lib.Dec.{ltb}
 use Rattle.octets.specs.Answer.{refused}
 use Rattle.octets.proofs.Places.{UpTo, up-to-accepted, up-to-refused, up-to-if, handed-on}
-use Rattle.layout.specs.declared.Span.{Span}
+use Rattle.parts.specs.declared.Span.{Span}
 use Rattle.runs.specs.declared.Found.{Found}
 use Rattle.runs.specs.declared.Found.the-variants.{At, Nowhere}
 use Rattle.runs.specs.Run.{isRun, namedFrom}

@@ -3,7 +3,8 @@ use mathlib.Core.Path.{_≡_, refl}
 use mathlib.Core.List.{[], _∷_}
 use Rattle.octets.specs.Answer.{accepted, refused}
 use Rattle.runs.specs.Run.{stepAt, stops, stopFrom, isRun, seeks, namedFrom}
-use Rattle.layout.specs.Container.{runFrom, variableAt, optionalAt, variableSlot, optionalSlot, sharesOf, judged, held, containerOf, partsOf}
+use Rattle.layout.specs.Container.{runFrom, variableAt, optionalAt, variableSlot, optionalSlot, containerOf, partsOf}
+use Rattle.parts.specs.Overlap.{sharesOf, judged, held}
 use Rattle.isup.specs.Table.{shapeOf}
 use Rattle.isup.specs.Read.{readOf}
 use Rattle.finding.specs.Find.{spot, namedIn, soughtIn, locateOf, stretchStart}

@@ -12,7 +12,7 @@ use Rattle.octets.specs.Stretch.{Stretch}
 use Rattle.octets.specs.Answer.{Answer, accepted, refused}
 use Rattle.octets.proofs.Choice.{chosen}
 use Rattle.octets.proofs.Answer.{refused-accepted, accepted-same, then-accepted, past-test}
-use Rattle.layout.specs.declared.Span.{Span}
+use Rattle.parts.specs.declared.Span.{Span}
 use Rattle.runs.specs.declared.Found.{Found}
 use Rattle.runs.specs.declared.Found.the-variants.{At, Nowhere}
 use Rattle.runs.specs.Run.{stepAt, isRun, seeks, namedFrom}

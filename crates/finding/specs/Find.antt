@@ -5,7 +5,7 @@ use mathlib.Core.List.{List}
 use lib.Dec.{ltb, eqb}
 use Rattle.octets.specs.Choice.{if_then_else_}
 use Rattle.octets.specs.Answer.{Answer, accepted, refused, _then_}
-use Rattle.layout.specs.declared.Span.{Span}
+use Rattle.parts.specs.declared.Span.{Span}
 use Rattle.runs.specs.declared.Found.{Found}
 use Rattle.runs.specs.declared.Found.the-variants.{At, Nowhere}
 use Rattle.runs.specs.Run.{isRun, namedFrom}

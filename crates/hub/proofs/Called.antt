@@ -22,15 +22,16 @@ use Rattle.asks.specs.declared.Ask.{Ask}
 use Rattle.rows.specs.Rows.{rowOf}
 use Rattle.asks.specs.Asks.{askIn, markOf, askOf}
 use Rattle.asks.proofs.Reading.{asked-is, ask-read, ask-last}
-use Rattle.hub.specs.Tables.{Tables}
-use Rattle.hub.specs.Rights.{isMine, hasRight, mayHelp, firstUnowned, isFound}
+use Rattle.rights.specs.Tables.{Tables}
+use Rattle.rights.specs.Rights.{isMine, hasRight, mayHelp, firstUnowned, isFound}
 use Rattle.hub.specs.Rows.{effect, rowsAfter}
 use Rattle.hub.specs.Replies.{replyOf}
-use Rattle.hub.specs.Acts.{isUnhelpable, grantOf, After, carriedOut, actOf}
-use Rattle.hub.specs.Names.{Mine, HasRight, Named, Names}
+use Rattle.rights.specs.Permits.{isUnhelpable}
+use Rattle.hub.specs.Acts.{grantOf, After, carriedOut, actOf}
+use Rattle.rights.specs.Names.{Mine, HasRight, Named, Names}
 use Rattle.octets.proofs.Applied.{length-applied, applied-below, applied-past, applied-in}
 use Rattle.hub.proofs.Given.{Allowed, granted}
-use Rattle.hub.proofs.Meaning.{mine-is, right-is, found-none}
+use Rattle.rights.proofs.Meaning.{mine-is, right-is, found-none}
 
 -- ---- the rows after a message
 module _ (m : List ℕ) (a : Ask) (states : List ℕ) where

@@ -8,7 +8,7 @@ use Rattle.asks.specs.declared.Ask.{Ask}
 use Rattle.asks.specs.Asks.{askOf}
 use Rattle.hub.specs.declared.Handled.{Handled}
 use Rattle.hub.specs.declared.Handled.the-variants.{Done, Refused}
-use Rattle.hub.specs.Tables.{Tables}
+use Rattle.rights.specs.Tables.{Tables}
 use Rattle.hub.specs.Acts.{after, actOf}
 use Rattle.hub.specs.Deeds.{Deed, deed, Handling, handling, withCircuits, handlingOf, handledOf, unspanned, handledTold}
 

@@ -8,7 +8,7 @@ use Rattle.octets.proofs.Told.{written-told-injective}
 use Rattle.asks.specs.declared.Verdict.{Verdict}
 use Rattle.asks.specs.Told.{verdictTold}
 use Rattle.asks.proofs.Determined.{verdict-told-injective}
-use Rattle.hub.specs.Tables.{Tables}
+use Rattle.rights.specs.Tables.{Tables}
 use Rattle.hub.specs.Acts.{After, after, judgedOf, actOf}
 
 -- of one call, for any tables, sender, message and buffer

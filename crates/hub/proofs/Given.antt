@@ -3,7 +3,6 @@ use Prim.Native.Nat.{ℕ, _+_, _≤_}
 use mathlib.Core.Path.{_≡_, refl, sym, _∙_, ap, subst}
 use mathlib.Core.Bool.{Bool, true, false}
 use mathlib.Core.List.{List}
-use native.Mathlib.Omega.{arith}
 use borrow.Author.Tests.{eq-eqb, eqb-true, ltb-false}
 use lib.Dec.{ltb, eqb}
 use lib.ListN.{length}
@@ -23,13 +22,13 @@ use Rattle.asks.specs.Asks.{askOf, Sound}
 use Rattle.asks.specs.Told.{verdictTold}
 use Rattle.asks.proofs.Reading.{ask-sound}
 use Rattle.replies.specs.Replies.{sent}
-use Rattle.hub.specs.Tables.{Tables, sized}
-use Rattle.hub.specs.Rights.{isMine, hasRight, mayHelp, firstForeign, firstUnowned, firstIllegal, isFound}
-use Rattle.hub.specs.Inside.{againstOf}
+use Rattle.rights.specs.Tables.{Tables, sized}
+use Rattle.rights.specs.Rights.{firstForeign, firstIllegal, isFound}
 use Rattle.hub.specs.Rows.{rowsAfter}
 use Rattle.hub.specs.Replies.{replyOf}
-use Rattle.hub.proofs.Meaning.{none-found, found-none}
-use Rattle.hub.specs.Acts.{isTaken, isUnhelpable, permittedOf, roomed, allowedOf, judgedOf, grantOf, after, carriedOut, actOf}
+use Rattle.rights.specs.Permits.{isTaken, isUnhelpable, permittedOf}
+use Rattle.rights.proofs.Given.{Permitted, permitted}
+use Rattle.hub.specs.Acts.{roomed, allowedOf, judgedOf, grantOf, after, carriedOut, actOf}
 
 -- ---- all that is looked at, with tables of the right length
 pub grant-sized : (T : Tables) (sender : ℕ) (m : List ℕ) (room : ℕ) → length (T .states) ≡ 4096 → length (T .owners) ≡ 4096 → length (T .helpers) ≡ 4096 → grantOf T sender m room ≡ (askOf m then allowedOf T sender m room)
@@ -59,23 +58,6 @@ grant-judged T sender m room = go (sized T) (askOf m)
     go true (accepted a) = refl
     go true (refused n at) = refl
     go false x = refl
-
--- ---- what is known of what is permitted
-pub record Permitted (T : Tables) (sender : ℕ) (a : Ask) : Type 0 where
-  pub right : isFound (firstForeign (T .owners) (T .helpers) sender (a .circuit) (a .range + 1)) ≡ false
-  pub helps : isUnhelpable T sender a ≡ false
-  pub legal : isFound (firstIllegal (T .states) (a .circuit) (a .range + 1)) ≡ false
-  pub free : isTaken (T .states) (a .act) (a .circuit) ≡ false
-
-pub permitted : (T : Tables) (sender : ℕ) (b a : Ask) → permittedOf T sender b ≡ accepted a → (b ≡ a) × Permitted T sender a
-unfolding permittedOf
-permitted T sender b a e =
-    let t1 = past-test 19 0 (isFound (firstForeign (T .owners) (T .helpers) sender (b .circuit) (b .range + 1))) e in
-    let t0 = past-test 22 0 (isUnhelpable T sender b) (t1 .1) in
-    let t2 = past-test 20 0 (isFound (firstIllegal (T .states) (b .circuit) (b .range + 1))) (t0 .1) in
-    let t3 = past-test 21 0 (isTaken (T .states) (b .act) (b .circuit)) (t2 .1) in
-    let s : b ≡ a = accepted-same (t3 .1) in
-    (s, subst (λ (y : Ask). Permitted T sender y) s (record { right = t1 .0; helps = t0 .0; legal = t2 .0; free = t3 .0 }))
 
 both : (s t : Bool) → (if s then t else false) ≡ true → (s ≡ true) × (t ≡ true)
 both true t e = (refl, e)
@@ -176,75 +158,3 @@ module _ (T : Tables) (sender : ℕ) (m buffer : List ℕ) (v : Verdict) (w : ve
 pub allow-foreign : (T : Tables) (sender : ℕ) (m : List ℕ) (room : ℕ) (a : Ask) → isFound (firstForeign (T .owners) (T .helpers) sender (a .circuit) (a .range + 1)) ≡ true → refused 19 0 ≡ allowedOf T sender m room a
 unfolding allowedOf permittedOf
 allow-foreign T sender m room a e = rw e
-
--- ---- 19 and 22, as the code comes to them
--- where the sender owns every named circuit it has a right on each
-pub owned-right : (owners helpers : List ℕ) (sender circuit n : ℕ) → isFound (firstUnowned owners sender circuit n) ≡ false → isFound (firstForeign owners helpers sender circuit n) ≡ false
-owned-right owners helpers sender circuit n e =
-    none-found (hasRight owners helpers sender) circuit n
-    (λ j p q. let o = found-none (isMine owners sender) circuit n e j p q in ap (λ (b : Bool). if b then true else isMine helpers sender j) o)
-
-module _ (owners helpers : List ℕ) (sender : ℕ) (a : Ask) where
-  pub against-none : isFound (firstUnowned owners sender (a .circuit) (a .range + 1)) ≡ false → _≡_ {A = ℕ} 0 (againstOf owners helpers sender a)
-  unfolding againstOf
-  against-none e = rw (owned-right owners helpers sender (a .circuit) (a .range + 1) e, e) (either (mayHelp (a .act) (a .block)))
-    where
-      either : (b : Bool) → _≡_ {A = ℕ} 0 (if b then 0 else 0)
-      either true = refl
-      either false = refl
-
-  pub against-foreign : isFound (firstForeign owners helpers sender (a .circuit) (a .range + 1)) ≡ true → _≡_ {A = ℕ} 19 (againstOf owners helpers sender a)
-  unfolding againstOf
-  against-foreign e = rw e refl
-
-  module _ (f : isFound (firstForeign owners helpers sender (a .circuit) (a .range + 1)) ≡ false) where
-    pub against-helped : mayHelp (a .act) (a .block) ≡ true → _≡_ {A = ℕ} 0 (againstOf owners helpers sender a)
-    unfolding againstOf
-    against-helped e = rw (f, e) refl
-
-    pub against-only-helped : isFound (firstUnowned owners sender (a .circuit) (a .range + 1)) ≡ true → mayHelp (a .act) (a .block) ≡ false → _≡_ {A = ℕ} 22 (againstOf owners helpers sender a)
-    unfolding againstOf
-    against-only-helped u e = rw (f, e, u) refl
-
--- ---- what is permitted, test by test
-module _ (T : Tables) (sender : ℕ) (a : Ask) where
-  -- 19 or 22
-  pub permit-against : (n : ℕ) → n ≡ againstOf (T .owners) (T .helpers) sender a → (n ≡ 0 → ⊥) → refused n 0 ≡ permittedOf T sender a
-  unfolding permittedOf againstOf isUnhelpable
-  permit-against n e z =
-      go (isFound (firstForeign (T .owners) (T .helpers) sender (a .circuit) (a .range + 1))) (mayHelp (a .act) (a .block)) (isFound (firstUnowned (T .owners) sender (a .circuit) (a .range + 1))) e
-    where
-      rest : Answer Ask
-      rest = if isFound (firstIllegal (T .states) (a .circuit) (a .range + 1)) then refused 20 0 else if isTaken (T .states) (a .act) (a .circuit) then refused 21 0 else accepted a
-
-      go : (f h u : Bool) → n ≡ (if f then 19 else if h then 0 else if u then 22 else 0) → refused n 0 ≡ (if f then refused 19 0 else if (if h then false else u) then refused 22 0 else rest)
-      go true h u e = ap (λ (k : ℕ). refused k 0) e
-      go false true u e = absurd (z e)
-      go false false true e = ap (λ (k : ℕ). refused k 0) e
-      go false false false e = absurd (z e)
-
-  -- neither
-  pub none-against : _≡_ {A = ℕ} 0 (againstOf (T .owners) (T .helpers) sender a) → (isFound (firstForeign (T .owners) (T .helpers) sender (a .circuit) (a .range + 1)) ≡ false) × (isUnhelpable T sender a ≡ false)
-  unfolding againstOf isUnhelpable
-  none-against e =
-      go (isFound (firstForeign (T .owners) (T .helpers) sender (a .circuit) (a .range + 1))) (mayHelp (a .act) (a .block)) (isFound (firstUnowned (T .owners) sender (a .circuit) (a .range + 1))) e
-    where
-      go : (f h u : Bool) → _≡_ {A = ℕ} 0 (if f then 19 else if h then 0 else if u then 22 else 0) → (f ≡ false) × ((if h then false else u) ≡ false)
-      go true h u e = let z : _≡_ {A = ℕ} 0 19 = e in absurd (omega arith)
-      go false true u e = (refl, refl)
-      go false false true e = let z : _≡_ {A = ℕ} 0 22 = e in absurd (omega arith)
-      go false false false e = (refl, refl)
-
-  module _ (p : isFound (firstForeign (T .owners) (T .helpers) sender (a .circuit) (a .range + 1)) ≡ false) (h : isUnhelpable T sender a ≡ false) where
-    pub permit-illegal : isFound (firstIllegal (T .states) (a .circuit) (a .range + 1)) ≡ true → refused 20 0 ≡ permittedOf T sender a
-    unfolding permittedOf
-    permit-illegal e = rw (p, h, e)
-
-    module _ (q : isFound (firstIllegal (T .states) (a .circuit) (a .range + 1)) ≡ false) where
-      pub permit-taken : isTaken (T .states) (a .act) (a .circuit) ≡ true → refused 21 0 ≡ permittedOf T sender a
-      unfolding permittedOf
-      permit-taken e = rw (p, h, q) (rw e)
-
-      pub permit-all : isTaken (T .states) (a .act) (a .circuit) ≡ false → accepted a ≡ permittedOf T sender a
-      unfolding permittedOf
-      permit-all e = rw (p, h, q) (rw e)

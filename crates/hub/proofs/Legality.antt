@@ -15,9 +15,10 @@ use Rattle.rows.proofs.Legality.{row-legal}
 use Rattle.rows.proofs.Rules.{local-stays}
 use Rattle.asks.specs.declared.Ask.{Ask}
 use Rattle.asks.specs.Asks.{markOf}
-use Rattle.hub.specs.Tables.{Tables, tables}
-use Rattle.hub.specs.Acts.{isTaken, actOf}
-use Rattle.hub.specs.Names.{Named}
+use Rattle.rights.specs.Tables.{Tables, tables}
+use Rattle.rights.specs.Permits.{isTaken}
+use Rattle.hub.specs.Acts.{actOf}
+use Rattle.rights.specs.Names.{Named}
 use Rattle.hub.specs.Arrival.{Event, heard, ours, doneBy}
 use Rattle.hub.proofs.Given.{Allowed}
 use Rattle.hub.proofs.Called.{row-inside, row-outside, named-or, seized-alone, call-accepted, act-keeps, answer-or, reaches}

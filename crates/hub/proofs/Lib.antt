@@ -1,6 +1,4 @@
-pub mod Searches
 pub mod Writing
-pub mod Meaning
 pub mod Given
 pub mod Judged
 pub mod Places

@@ -16,16 +16,18 @@ use Rattle.rows.specs.declared.Act.the-variants.{Seize, Release, Reset, Block, 
 use Rattle.rows.specs.Rows.{isLegal}
 use Rattle.asks.specs.declared.Ask.{Ask}
 use Rattle.replies.specs.Replies.{replyLength}
-use Rattle.hub.specs.Tables.{Tables}
+use Rattle.rights.specs.Tables.{Tables}
 use Rattle.asks.specs.Asks.{askOf}
-use Rattle.hub.specs.Rights.{isMine, hasRight, mayHelp, firstForeign, firstUnowned, firstIllegal, isFound}
+use Rattle.rights.specs.Rights.{isMine, hasRight, mayHelp, firstForeign, firstUnowned, firstIllegal, isFound}
 use Rattle.hub.specs.Rows.{effect}
 use Rattle.hub.specs.Replies.{replyOf}
-use Rattle.hub.specs.Acts.{isTaken, isUnhelpable, permittedOf, roomed, allowedOf, grantOf, carriedOut, actOf}
-use Rattle.hub.specs.Names.{Named, Names}
-use Rattle.hub.proofs.Meaning.{search-same}
+use Rattle.rights.specs.Permits.{isTaken, isUnhelpable, permittedOf}
+use Rattle.hub.specs.Acts.{roomed, allowedOf, grantOf, carriedOut, actOf}
+use Rattle.rights.specs.Names.{Named, Names}
+use Rattle.rights.proofs.Meaning.{search-same}
 use Rattle.hub.proofs.Writing.{length-reply, reply-alike}
-use Rattle.hub.proofs.Given.{permitted, granted, grant-sized}
+use Rattle.rights.proofs.Given.{permitted}
+use Rattle.hub.proofs.Given.{granted, grant-sized}
 use Rattle.hub.proofs.Called.{row-inside, asks-so, reaches}
 
 -- the two sets of tables agree on the circuits that the message names

@@ -22,15 +22,15 @@ use Rattle.asks.specs.Asks.{askOf}
 use Rattle.asks.proofs.Reading.{ask-last}
 use Rattle.arrival.specs.Calls.{Apart, Has, Separate, Merged, stateAfter, answersOf, answers, callsOf}
 use Rattle.arrival.proofs.Isolation.{own-has, own-answers, own-rows, others-stay, some, merges-size-alike, state-so-far, answer-so-far, merges-answer-alike, merges-end-alike, merge-answers-alone}
-use Rattle.hub.specs.Tables.{Tables, tables, sized}
-use Rattle.hub.specs.Rights.{hasRight, firstForeign, isFound}
+use Rattle.rights.specs.Tables.{Tables, tables, sized}
+use Rattle.rights.specs.Rights.{hasRight, firstForeign, isFound}
 use Rattle.hub.specs.Rows.{effect}
 use Rattle.hub.specs.Replies.{replyOf}
 use Rattle.hub.specs.Acts.{allowedOf, grantOf, carriedOut, actOf}
-use Rattle.hub.specs.Names.{HasRight}
+use Rattle.rights.specs.Names.{HasRight}
 use Rattle.hub.specs.Desk.{deskOf}
 use Rattle.hub.specs.Arrival.{Event, heard, ours, Call, partyOf, doneBy, holdsOf, RightOf, hub}
-use Rattle.hub.proofs.Meaning.{right-is, found-none}
+use Rattle.rights.proofs.Meaning.{right-is, found-none}
 use Rattle.hub.proofs.Writing.{reply-alike}
 use Rattle.hub.proofs.Given.{granted, allow-foreign}
 use Rattle.hub.proofs.Called.{row-inside, row-outside, named-or, reaches, states-length, names-right, only-right, call-accepted, act-keeps, answer-or}

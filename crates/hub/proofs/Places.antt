@@ -15,10 +15,11 @@ use Rattle.isup.proofs.Places.{handed-within, others-placeless}
 use Rattle.asks.specs.declared.Ask.{Ask}
 use Rattle.asks.specs.Asks.{askOf}
 use Rattle.asks.proofs.Places.{ask-hands-on}
-use Rattle.hub.specs.Tables.{Tables, sized}
-use Rattle.hub.specs.Rights.{firstForeign, firstIllegal, isFound}
+use Rattle.rights.specs.Tables.{Tables, sized}
+use Rattle.rights.specs.Rights.{firstForeign, firstIllegal, isFound}
 use Rattle.hub.specs.Replies.{replyOf}
-use Rattle.hub.specs.Acts.{isTaken, isUnhelpable, permittedOf, roomed, allowedOf, grantOf, after, actOf}
+use Rattle.rights.specs.Permits.{isTaken, isUnhelpable, permittedOf}
+use Rattle.hub.specs.Acts.{roomed, allowedOf, grantOf, after, actOf}
 use Rattle.hub.proofs.Given.{grant-sized}
 use Rattle.hub.proofs.Judged.{answered}
 

@@ -26,7 +26,7 @@ use Rattle.replies.specs.Replies.{statesFrom}
 use Rattle.replies.specs.Rules.{Saying, saying, messagesTo, saidTypes, ReadsAs, ReadInTurn, States}
 use Rattle.replies.proofs.Status.{states-shown}
 use Rattle.replies.proofs.ReadBack.{answer-reads}
-use Rattle.hub.specs.Tables.{Tables}
+use Rattle.rights.specs.Tables.{Tables}
 use Rattle.hub.specs.Replies.{statusIn, replyOf}
 use Rattle.hub.specs.Acts.{actOf}
 use Rattle.hub.specs.Rules.{Accepts, answerTypes}

@@ -12,8 +12,9 @@ use Rattle.octets.specs.Octet.{octet}
 use Rattle.octets.specs.Choice.{if_then_else_}
 use Rattle.octets.specs.Answer.{Answer, accepted, refused, _then_}
 use Rattle.octets.proofs.Answer.{refused-same, refused-accepted}
-use Rattle.layout.specs.Spans.{span}
-use Rattle.layout.specs.Container.{variableAt, optionalAt, variableSlot, optionalSlot, sharesOf, judged, held, containerOf, partsOf}
+use Rattle.parts.specs.Spans.{span}
+use Rattle.layout.specs.Container.{variableAt, optionalAt, variableSlot, optionalSlot, containerOf, partsOf}
+use Rattle.parts.specs.Overlap.{sharesOf, judged, held}
 use Rattle.isup.specs.Table.{shapeOf}
 use Rattle.isup.specs.Read.{readOf}
 use Rattle.asks.specs.declared.Ask.{Ask}
@@ -24,14 +25,15 @@ use Rattle.asks.specs.Types.{actFor}
 use Rattle.asks.specs.Asks.{oneAsk, rangeAsk, brokenRange, askedIn, askOf, markOf}
 use Rattle.arrival.specs.Calls.{Calls, Apart, Merged, answersOf, callsOf}
 use Rattle.arrival.proofs.Isolation.{merged-so}
-use Rattle.hub.specs.Tables.{Tables, tables, sized}
-use Rattle.hub.specs.Rights.{mayHelp, firstNot, firstForeign, firstIllegal, isFound}
+use Rattle.rights.specs.Tables.{Tables, tables, sized}
+use Rattle.rights.specs.Rights.{mayHelp, firstNot, firstForeign, firstIllegal, isFound}
 use Rattle.octets.specs.Applied.{applied}
 use Rattle.hub.specs.Rows.{rowsAfter}
 use Rattle.hub.specs.Replies.{statusIn, replyOf}
 use Rattle.hub.specs.Desk.{rowsBlocked, deskOf}
 use Rattle.hub.specs.Arrival.{Event, heard, ours, Call, partyOf, Reply, replied, holdsOf, hub}
-use Rattle.hub.specs.Acts.{isTaken, isUnhelpable, permittedOf, allowedOf, grantOf, After, after, carriedOut, actOf}
+use Rattle.rights.specs.Permits.{isTaken, isUnhelpable, permittedOf}
+use Rattle.hub.specs.Acts.{allowedOf, grantOf, After, after, carriedOut, actOf}
 use Rattle.hub.proofs.Given.{grant-sized}
 use Rattle.hub.proofs.Called.{act-keeps}
 use Rattle.hub.proofs.Desk.{desk-keeps}

@@ -33,20 +33,21 @@ use Rattle.asks.proofs.Judged.{asked-names}
 use Rattle.octets.specs.Sum.{total}
 use Rattle.asks.proofs.Marks.{marks-counted}
 use Rattle.asks.proofs.Reading.{Asked, ask-as, range-rule, WholeGroup, whole-group}
-use Rattle.hub.specs.Tables.{Tables}
-use Rattle.hub.specs.Rights.{mayHelp, firstIllegal, isFound}
-use Rattle.hub.specs.Names.{Mine, HasRight}
-use Rattle.hub.specs.Faults.{NamedBy, Helpable}
+use Rattle.rights.specs.Tables.{Tables}
+use Rattle.rights.specs.Rights.{mayHelp, firstIllegal, isFound}
+use Rattle.rights.specs.Names.{Mine, HasRight}
+use Rattle.rights.specs.Faults.{NamedBy, Helpable}
 use Rattle.replies.specs.Replies.{statusGiven, statusLocked, statesFrom, rangeAndStatus, completion}
 use Rattle.replies.specs.Rules.{Marks, Locks, States}
 use Rattle.replies.proofs.Status.{status-marks, locks-shown, states-shown}
 use Rattle.hub.specs.Rows.{rowsAfter}
 use Rattle.hub.specs.Replies.{statusIn, replyOf}
-use Rattle.hub.specs.Acts.{isTaken, actOf}
+use Rattle.rights.specs.Permits.{isTaken}
+use Rattle.hub.specs.Acts.{actOf}
 use Rattle.hub.specs.Rules.{Changes, every, Answers, Acknowledges, Accepts}
 use Rattle.hub.proofs.Called.{Called, row-named, row-outside, call-accepted, reaches, names-right, names-mine}
-use Rattle.hub.proofs.Judged.{help-by}
-use Rattle.hub.proofs.Meaning.{found-none}
+use Rattle.rights.proofs.Judged.{help-by}
+use Rattle.rights.proofs.Meaning.{found-none}
 use Rattle.hub.proofs.Writing.{rows-queried}
 
 -- marks of a stretch of the message are marks of the message

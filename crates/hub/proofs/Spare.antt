@@ -29,10 +29,11 @@ use Rattle.asks.proofs.Reading.{ask-as}
 use Rattle.asks.proofs.Marks.{mark-alike, ask-alike}
 use Rattle.marks.specs.Marks.{cutTo, statusOctet}
 use Rattle.replies.proofs.Spare.{answer-alike}
-use Rattle.hub.specs.Tables.{Tables, sized}
+use Rattle.rights.specs.Tables.{Tables, sized}
 use Rattle.hub.specs.Rows.{effect, rowsAfter}
 use Rattle.hub.specs.Replies.{statusIn, replyOf}
-use Rattle.hub.specs.Acts.{permittedOf, roomed, judgedOf, After, after, carriedOut, actOf}
+use Rattle.rights.specs.Permits.{permittedOf}
+use Rattle.hub.specs.Acts.{roomed, judgedOf, After, after, carriedOut, actOf}
 use Rattle.hub.proofs.Given.{grant-judged, fair}
 
 -- of an ask whose status stands where the group's does and whose range is the group's

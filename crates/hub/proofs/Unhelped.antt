@@ -12,9 +12,10 @@ use Rattle.octets.specs.Answer.{Answer, accepted, refused, _then_}
 use Rattle.octets.proofs.Octet.{zero-at}
 use Rattle.asks.specs.declared.Ask.{Ask}
 use Rattle.asks.specs.Asks.{askOf}
-use Rattle.hub.specs.Tables.{tables, sized}
-use Rattle.hub.specs.Rights.{isMine, hasRight, firstNot, firstIllegal, isFound}
-use Rattle.hub.specs.Acts.{isTaken, isUnhelpable, permittedOf, roomed, allowedOf, grantOf, carriedOut, actOf}
+use Rattle.rights.specs.Tables.{tables, sized}
+use Rattle.rights.specs.Rights.{isMine, hasRight, firstNot, firstIllegal, isFound}
+use Rattle.rights.specs.Permits.{isTaken, isUnhelpable, permittedOf}
+use Rattle.hub.specs.Acts.{roomed, allowedOf, grantOf, carriedOut, actOf}
 
 -- of the helpers only who has a right counts: two tables of one length that give the sender the same rights give it the same call
 pub rights-count : (s o h k : List ℕ) (q : ℕ) → length h ≡ length k → ((c : ℕ) → hasRight o h q c ≡ hasRight o k q c) → (m b : List ℕ) → actOf (tables s o h) q m b ≡ actOf (tables s o k) q m b

@@ -18,7 +18,7 @@ use Rattle.asks.specs.Asks.{markOf}
 use Rattle.replies.specs.Replies.{answerTo, replyLength}
 use Rattle.replies.proofs.Writing.{length-answer}
 use Rattle.hub.specs.Rows.{effect, rowsAfter}
-use Rattle.hub.specs.Names.{Named}
+use Rattle.rights.specs.Names.{Named}
 use Rattle.hub.specs.Replies.{statusIn, replyOf}
 
 -- ---- the answer

@@ -10,7 +10,7 @@ use Rattle.octets.specs.Octet.{octet}
 use Rattle.octets.specs.Choice.{if_then_else_}
 use Rattle.octets.specs.Answer.{Answer}
 use Rattle.arrival.specs.Calls.{Calls}
-use Rattle.hub.specs.Tables.{tables}
+use Rattle.rights.specs.Tables.{tables}
 use Rattle.hub.specs.Acts.{After, actOf}
 use Rattle.hub.specs.Desk.{deskOf}
 

@@ -6,7 +6,7 @@ use Rattle.asks.specs.declared.Ask.{Ask}
 use Rattle.asks.specs.Asks.{askOf}
 use Rattle.hub.specs.declared.Handled.{Handled}
 use Rattle.hub.specs.declared.Handled.the-variants.{Done, Refused}
-use Rattle.hub.specs.Tables.{Tables}
+use Rattle.rights.specs.Tables.{Tables}
 use Rattle.hub.specs.Acts.{After, actOf}
 
 -- how many octets the answer has, and the first and the last circuit that is named

@@ -1,11 +1,7 @@
-pub mod Tables
-pub mod Rights
 pub mod Rows
 pub mod Replies
-pub mod Inside
 pub mod Acts
 pub mod Desk
-pub mod Names
 pub mod Faults
 pub mod Rules
 pub mod Arrival

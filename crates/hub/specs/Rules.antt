@@ -16,7 +16,7 @@ use Rattle.isup.specs.WellFormed.{WellFormed}
 use Rattle.isup.specs.Types.{REL, RLC, RSC, BLO, UBL, BLA, UBA, GRS, CGB, CGU, CGBA, CGUA, GRA, CQM, CQR}
 use Rattle.asks.specs.Asks.{rangeIn, width}
 use Rattle.replies.specs.Rules.{Marks}
-use Rattle.hub.specs.Tables.{Tables}
+use Rattle.rights.specs.Tables.{Tables}
 use Rattle.hub.specs.Acts.{actOf}
 
 -- R42. of circuits m to m+r the marked rows change as said, the unmarked stay, and every other row stays

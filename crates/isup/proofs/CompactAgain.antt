@@ -12,7 +12,7 @@ use Rattle.octets.specs.declared.Written.{Written}
 use Rattle.octets.specs.declared.Written.the-variants.{Refused}
 use Rattle.octets.specs.Told.{writtenTold}
 use Rattle.octets.proofs.Told.{writing-determined, writing-keeps}
-use Rattle.layout.specs.Spans.{partOf}
+use Rattle.parts.specs.Spans.{partOf}
 use Rattle.writing.specs.Write.{order}
 use Rattle.writing.specs.Compact.{saidWith}
 use Rattle.family.specs.Family.{familyWriteIn}

@@ -8,7 +8,7 @@ use lib.ListN.{length}
 use Rattle.octets.specs.Octet.{octet}
 use Rattle.octets.specs.Answer.{accepted, _then_}
 use Rattle.octets.proofs.Answer.{accepted-same, then-accepted, then-same}
-use Rattle.layout.specs.declared.Parts.{Parts}
+use Rattle.parts.specs.declared.Parts.{Parts}
 use Rattle.layout.specs.Container.{kindAt}
 use Rattle.layout.specs.Gaps.{Agrees}
 use Rattle.layout.proofs.Header.{header-ignored}

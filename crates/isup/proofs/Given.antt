@@ -6,11 +6,11 @@ use native.Mathlib.Omega.{arith}
 use lib.ListN.{length}
 use Rattle.octets.specs.Answer.{accepted, refused, _then_}
 use Rattle.layout.specs.declared.Row.{Row}
-use Rattle.layout.specs.declared.Parts.{Parts}
-use Rattle.layout.specs.declared.Body.{Body}
-use Rattle.layout.specs.declared.Body.the-variants.{Laid, Broken}
+use Rattle.parts.specs.declared.Parts.{Parts}
+use Rattle.parts.specs.declared.Body.{Body}
+use Rattle.parts.specs.declared.Body.the-variants.{Laid, Broken}
 use Rattle.layout.specs.Container.{kindAt, partsOf}
-use Rattle.layout.specs.Told.{bodyTold}
+use Rattle.parts.specs.Told.{bodyTold}
 use Rattle.layout.proofs.Exactly.{parts-exactly}
 use Rattle.isup.specs.declared.Message.{Message}
 use Rattle.isup.specs.declared.Reading.{Reading}

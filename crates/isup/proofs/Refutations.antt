@@ -6,7 +6,8 @@ use Rattle.octets.specs.Answer.{refused}
 use Rattle.octets.specs.Filled.{leaving}
 use Rattle.octets.proofs.Answer.{refused-accepted}
 use Rattle.runs.specs.Run.{stepAt, stops, stopFrom}
-use Rattle.layout.specs.Container.{runFrom, variableAt, optionalAt, variableSlot, optionalSlot, sharesOf, judged, held, containerOf, partsOf}
+use Rattle.layout.specs.Container.{runFrom, variableAt, optionalAt, variableSlot, optionalSlot, containerOf, partsOf}
+use Rattle.parts.specs.Overlap.{sharesOf, judged, held}
 use Rattle.isup.specs.Table.{shapeOf}
 use Rattle.isup.specs.Read.{readOf}
 use Rattle.isup.specs.Write.{writeIn, writeOf}

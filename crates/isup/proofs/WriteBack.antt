@@ -14,8 +14,8 @@ use Rattle.octets.proofs.Octet.{octets-octet}
 use Rattle.octets.proofs.Answer.{past-test}
 use Rattle.octets.proofs.Filled.{judges-filled, room-judges}
 use Rattle.octets.proofs.Faults.{judges-if}
-use Rattle.layout.specs.declared.Parts.{Parts}
-use Rattle.layout.specs.Spans.{partOf}
+use Rattle.parts.specs.declared.Parts.{Parts}
+use Rattle.parts.specs.Spans.{partOf}
 use Rattle.writing.specs.Write.{Order, order}
 use Rattle.writing.specs.Compact.{saidBy}
 use Rattle.writing.proofs.Again.{said-fits}

@@ -3,7 +3,7 @@ use Prim.Native.Nat.{ℕ, _+_, _*_, _%_}
 use mathlib.Core.List.{List}
 use Rattle.octets.specs.Octet.{octet}
 use Rattle.octets.specs.Answer.{Answer, accepted, _then_}
-use Rattle.layout.specs.declared.Parts.{Parts}
+use Rattle.parts.specs.declared.Parts.{Parts}
 use Rattle.layout.specs.Container.{kindAt}
 use Rattle.family.specs.Family.{readIn}
 use Rattle.isup.specs.declared.Message.{Message}

@@ -12,15 +12,16 @@ use Rattle.octets.specs.Octet.{octet}
 use Rattle.octets.specs.Answer.{Answer, accepted, _then_}
 use Rattle.octets.proofs.Choice.{chosen, decided}
 use Rattle.octets.proofs.Answer.{refused-accepted, accepted-same, then-accepted, past-test, test-past}
-use Rattle.layout.specs.declared.Span.{Span}
+use Rattle.parts.specs.declared.Span.{Span}
 use Rattle.runs.specs.declared.Stop.{Stop}
 use Rattle.runs.specs.declared.Stop.the-variants.{Closed, Ended, Passed}
 use Rattle.layout.specs.declared.Shape.{Shape}
-use Rattle.layout.specs.declared.Parts.{Parts}
+use Rattle.parts.specs.declared.Parts.{Parts}
 use Rattle.layout.specs.declared.Row.{Row}
 use Rattle.layout.specs.declared.Row.the-variants.{Has, Unknown}
-use Rattle.layout.specs.Spans.{span}
-use Rattle.layout.specs.Container.{closed, runFrom, nothing, past, pointed, variableFrom, variableAt, optionalAt, variableSlot, optionalSlot, startOf, endOf, sharesOf, contentsOf, runOf, held, judged, containerOf, shapedOf, ofRow, partsOf}
+use Rattle.parts.specs.Spans.{span}
+use Rattle.layout.specs.Container.{closed, runFrom, nothing, past, pointed, variableFrom, variableAt, optionalAt, variableSlot, optionalSlot, startOf, endOf, containerOf, shapedOf, ofRow, partsOf}
+use Rattle.parts.specs.Overlap.{sharesOf, contentsOf, runOf, held, judged}
 use Rattle.runs.specs.Params.{Param, Params, Closes, Run}
 use Rattle.layout.specs.Laid.{Points, Variable, Optional, VariableSlot, OptionalSlot, Share, AllApart, LaidOut, Framed}
 use Rattle.layout.proofs.Pointed.{pointed-points, points-pointed}

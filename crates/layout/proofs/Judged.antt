@@ -12,20 +12,22 @@ use Rattle.octets.specs.Octet.{octet}
 use Rattle.octets.specs.Choice.{if_then_else_}
 use Rattle.octets.specs.Answer.{Answer, accepted, refused, _then_}
 use Rattle.octets.specs.Faults.{Fault, Judges, fault}
-use Rattle.octets.proofs.Choice.{decided}
 use Rattle.octets.proofs.Answer.{accepted-same}
 use Rattle.octets.proofs.Faults.{judges-done, judges-there, judges-absent, judges-if, judges-then, judges-choice}
-use Rattle.layout.specs.declared.Span.{Span}
+use Rattle.parts.specs.declared.Span.{Span}
 use Rattle.runs.specs.declared.Stop.{Stop}
 use Rattle.runs.specs.declared.Stop.the-variants.{Closed, Ended, Passed}
 use Rattle.layout.specs.declared.Shape.{Shape}
-use Rattle.layout.specs.declared.Parts.{Parts}
+use Rattle.parts.specs.declared.Parts.{Parts}
 use Rattle.layout.specs.declared.Row.{Row}
 use Rattle.layout.specs.declared.Row.the-variants.{Has, Unknown}
 use Rattle.runs.specs.Run.{stopFrom}
-use Rattle.layout.specs.Container.{closed, runFrom, nothing, target, past, pointed, variableFrom, variableAt, optionalAt, variableSlot, optionalSlot, startOf, endOf, sharesOf, later, judged, containerOf, ofRow, partsOf}
+use Rattle.layout.specs.Container.{closed, runFrom, nothing, target, past, pointed, variableFrom, variableAt, optionalAt, variableSlot, optionalSlot, startOf, endOf, containerOf, ofRow, partsOf}
+use Rattle.parts.specs.Overlap.{sharesOf, later, judged}
 use Rattle.layout.specs.Laid.{Share}
-use Rattle.layout.specs.Faults.{Breaks, NotClosed, variableFaults, Wanted, optionalFaults, VariablePart, OptionalPart, LargerStart, sharing, containerFaults, NoRow, rowFaults, messageFaults}
+use Rattle.layout.specs.Faults.{Breaks, NotClosed, variableFaults, Wanted, optionalFaults, VariablePart, OptionalPart, sharing, containerFaults, NoRow, rowFaults, messageFaults}
+use Rattle.parts.specs.Overlap.{LargerStart}
+use Rattle.parts.proofs.Apart.{larger-later}
 use Rattle.layout.proofs.Pointed.{pointed-points}
 use Rattle.runs.proofs.Runs.{stop-from, from-stop, params-inside}
 use Rattle.layout.proofs.Exactly.{Proper, variable-proper, optional-proper, shares-exactly, slot-exactly, optional-slot-exactly}
@@ -91,13 +93,6 @@ optional-judges m w s =
     judges-absent _ (λ at x. no (x .1 .0 .0)) (judges-absent _ (λ at x. no (x .0 .0)) (judges-done nothing)))
 
 -- ---- parts that share an octet
-pub larger-later : (a b : Span) → LargerStart a b (later a b)
-larger-later a b =
-    ⊎-elim
-    (λ t. rw t (record { first = omega (arith, ltb-true (a .from) (b .from) t); second = omega arith; one = inr refl }))
-    (λ f. rw f (record { first = omega arith; second = ltb-false (a .from) (b .from) f; one = inl refl }))
-    (decided (ltb (a .from) (b .from)))
-
 larger-one : (a b : Span) (at at′ : ℕ) → LargerStart a b at → LargerStart a b at′ → at ≡ at′
 larger-one a b at at′ x y = ⊎-elim (λ p. ⊎-elim (λ q. p ∙ sym q) (λ q. omega (arith, x .second, y .first)) (y .one)) (λ p. ⊎-elim (λ q. omega (arith, x .first, y .second)) (λ q. p ∙ sym q) (y .one)) (x .one)
 

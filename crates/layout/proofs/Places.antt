@@ -14,9 +14,9 @@ use Rattle.octets.specs.Faults.{Fault, Absent, First}
 use Rattle.octets.proofs.Choice.{decided}
 use Rattle.octets.proofs.Faults.{first-append}
 use Rattle.octets.proofs.Places.{Each, first-so, UpTo, up-to-accepted, up-to-refused, up-to-if, up-to-then}
-use Rattle.layout.specs.declared.Span.{Span}
+use Rattle.parts.specs.declared.Span.{Span}
 use Rattle.layout.specs.declared.Shape.{Shape}
-use Rattle.layout.specs.declared.Parts.{Parts}
+use Rattle.parts.specs.declared.Parts.{Parts}
 use Rattle.layout.specs.declared.Row.{Row}
 use Rattle.layout.specs.declared.Row.the-variants.{Has, Unknown}
 use Rattle.runs.specs.declared.Stop.{Stop}
@@ -24,13 +24,15 @@ use Rattle.runs.specs.declared.Stop.the-variants.{Closed, Ended, Passed}
 use Rattle.runs.specs.Run.{stopFrom}
 use Rattle.runs.specs.Params.{Param}
 use Rattle.runs.proofs.Runs.{from-stop, params-inside}
-use Rattle.layout.specs.Container.{closed, runFrom, target, past, pointed, variableFrom, variableAt, optionalAt, variableSlot, optionalSlot, startOf, endOf, bit, sharesOf, later, judged, containerOf, ofRow, partsOf}
+use Rattle.layout.specs.Container.{closed, runFrom, target, past, pointed, variableFrom, variableAt, optionalAt, variableSlot, optionalSlot, startOf, endOf, bit, containerOf, ofRow, partsOf}
+use Rattle.parts.specs.Overlap.{sharesOf, later, judged}
 use Rattle.layout.specs.Laid.{OptionalSlot}
 use Rattle.layout.specs.Faults.{VariablePart, OptionalPart, sharing, variableFaults, optionalFaults, sharingFaults, rowFaults}
 use Rattle.layout.specs.Places.{PartAt, Overlap, FirstOverlap, PartPlace, Place}
 use Rattle.layout.proofs.Pointed.{pointed-points}
 use Rattle.layout.proofs.Exactly.{slot-exactly, optional-slot-exactly}
-use Rattle.layout.proofs.Judged.{larger-later, parts-judges}
+use Rattle.parts.proofs.Apart.{larger-later}
+use Rattle.layout.proofs.Judged.{parts-judges}
 
 -- ---- the rule
 -- a pair of parts is one of six

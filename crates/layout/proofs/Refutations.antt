@@ -6,7 +6,8 @@ use Rattle.octets.specs.Answer.{refused}
 use Rattle.runs.specs.Run.{stepAt, stops, stopFrom}
 use Rattle.layout.specs.declared.Shape.{Shape}
 use Rattle.layout.specs.declared.Row.the-variants.{Has}
-use Rattle.layout.specs.Container.{runFrom, variableAt, optionalAt, variableSlot, optionalSlot, sharesOf, judged, held, containerOf, partsOf}
+use Rattle.layout.specs.Container.{runFrom, variableAt, optionalAt, variableSlot, optionalSlot, containerOf, partsOf}
+use Rattle.parts.specs.Overlap.{sharesOf, judged, held}
 use Rattle.layout.specs.Packed.{packedOf, unpackedOf}
 
 -- a row of four variable parts: a reader that looks at three pointers takes this message, whose fourth pointer is 0

@@ -1,18 +1,17 @@
 -- The container from its pieces, over plain variables: a caller hands over what its calls ensure.
 use Prim.Native.Nat.{ℕ, _+_, _≤_, _<_}
-use mathlib.Core.Path.{_≡_, refl, sym, _∙_, ap}
-use mathlib.Core.Bool.{false}
+use mathlib.Core.Path.{_≡_, sym, _∙_, ap}
 use mathlib.Core.List.{List}
-use native.Mathlib.Omega.{arith}
-use borrow.Author.Tests.{lt-ltb, le-ltb, le-leb}
+use borrow.Author.Tests.{lt-ltb, le-ltb}
 use lib.ListN.{length}
 use Rattle.octets.specs.Answer.{Answer, accepted, refused}
-use Rattle.layout.specs.declared.Span.{Span}
+use Rattle.parts.specs.declared.Span.{Span}
 use Rattle.layout.specs.declared.Slot.{Slot}
 use Rattle.layout.specs.declared.Slot.the-variants.{At, Bad}
 use Rattle.layout.specs.declared.Shape.{Shape}
-use Rattle.layout.specs.Spans.{span}
-use Rattle.layout.specs.Container.{startOf, endOf, variableSlot, optionalSlot, sharesOf, judged, containerOf}
+use Rattle.parts.specs.Spans.{span}
+use Rattle.layout.specs.Container.{startOf, endOf, variableSlot, optionalSlot, containerOf}
+use Rattle.parts.specs.Overlap.{judged}
 use Rattle.layout.specs.Told.{slotTold}
 
 -- what a call that answers a slot ensures, with the case that came
@@ -51,8 +50,3 @@ module _ (m : List ℕ) (w : ℕ) (s : Shape) (e : ℕ) (q : e ≡ endOf w s) wh
         → judged (span (w + 1) (startOf w s)) a b c d ≡ containerOf m w s
     unfolding containerOf
     container-whole a b c d p₁ p₂ p₃ p₄ = simp (le-ltb _ _ (rw q at h), rw q at p₁, rw q at p₂, rw q at p₃, rw q at p₄)
-
--- a part that ends at octet 0 is not there, and shares no octet
-pub no-share : (a b : Span) → b .to ≡ 0 → sharesOf a b ≡ false
-unfolding sharesOf
-no-share a b e = rw (e, le-leb 0 (a .from) (omega arith)) refl

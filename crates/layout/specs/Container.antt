@@ -8,12 +8,13 @@ use lib.Dec.{ltb, leb, eqb}
 use Rattle.octets.specs.Octet.{octet}
 use Rattle.octets.specs.Choice.{if_then_else_}
 use Rattle.octets.specs.Answer.{Answer, accepted, refused, _then_}
-use Rattle.layout.specs.declared.Span.{Span}
+use Rattle.parts.specs.declared.Span.{Span}
 use Rattle.layout.specs.declared.Shape.{Shape}
-use Rattle.layout.specs.declared.Parts.{Parts}
+use Rattle.parts.specs.declared.Parts.{Parts}
 use Rattle.layout.specs.declared.Row.{Row}
 use Rattle.layout.specs.declared.Row.the-variants.{Has, Unknown}
-use Rattle.layout.specs.Spans.{span}
+use Rattle.parts.specs.Spans.{span}
+use Rattle.parts.specs.Overlap.{judged}
 use Rattle.runs.specs.declared.Stop.{Stop}
 use Rattle.runs.specs.declared.Stop.the-variants.{Closed, Ended, Passed}
 use Rattle.runs.specs.Run.{stopFrom}
@@ -79,37 +80,6 @@ variableSlot m at k n e = if ltb k n then variableAt m (at + k) e else accepted 
 -- the optional part, whose pointer is the last of the pointers
 unfoldable pub optionalSlot : List ℕ → Bool → ℕ → Answer Span
 optionalSlot m o e = if o then optionalAt m (e - 1) e else accepted nothing
-
--- two parts share an octet where neither ends before the other starts
-unfoldable pub sharesOf : Span → Span → Bool
-sharesOf a b = if leb (b .to) (a .from) then false else if leb (a .to) (b .from) then false else true
-
--- the later start of the two
-abbrev pub later : Span → Span → ℕ
-later a b = if ltb (a .from) (b .from) then b .from else a .from
-
--- what a variable parameter holds is past its length octet
-abbrev pub contentsOf : Span → Span
-contentsOf s = if ltb (s .from) (s .to) then span (s .from + 1) (s .to) else s
-
--- what an optional part holds comes before its closing 0
-abbrev pub runOf : Span → Span
-runOf s = if ltb (s .from) (s .to) then span (s .from) (s .to - 1) else s
-
--- what the parts hold, from the octets that each takes
-unfoldable pub held : Span → Span → Span → Span → Span → Parts
-held f a b c d = record { fixed = f; first = contentsOf a; second = contentsOf b; third = contentsOf c; optional = runOf d }
-
--- 8 where two parts share an octet, about the later start: the pairs in pointer order, by first member, then second
-unfoldable pub judged : Span → Span → Span → Span → Span → Answer Parts
-judged f a b c d =
-    if sharesOf a b then refused 8 (later a b)
-    else if sharesOf a c then refused 8 (later a c)
-    else if sharesOf a d then refused 8 (later a d)
-    else if sharesOf b c then refused 8 (later b c)
-    else if sharesOf b d then refused 8 (later b d)
-    else if sharesOf c d then refused 8 (later c d)
-    else accepted (held f a b c d)
 
 -- a message of that shape, its type octet at w. 4 where the fixed part or the pointers are cut off, about the message's end
 unfoldable pub containerOf : List ℕ → ℕ → Shape → Answer Parts

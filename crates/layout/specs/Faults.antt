@@ -7,7 +7,8 @@ use mathlib.Core.Logic.{_⊎_}
 use lib.ListN.{length}
 use Rattle.octets.specs.Octet.{octet}
 use Rattle.octets.specs.Faults.{Fault, fault}
-use Rattle.layout.specs.declared.Span.{Span}
+use Rattle.parts.specs.declared.Span.{Span}
+use Rattle.parts.specs.Overlap.{LargerStart}
 use Rattle.layout.specs.declared.Shape.{Shape}
 use Rattle.layout.specs.declared.Row.{Row}
 use Rattle.layout.specs.declared.Row.the-variants.{Has, Unknown}
@@ -22,12 +23,6 @@ Breaks m e p = (target m p < e) ⊎ (length m ≤ target m p)
 -- the optional part that starts at t passes L or is not closed: its whole parameters come to octet i, which is L, where a name was due, or the name octet of a parameter that passes L
 abbrev pub NotClosed : List ℕ → ℕ → ℕ → Type 0
 NotClosed m t i = (qs : List Param) × Params m t qs i × ((i ≡ length m) ⊎ Passes m i)
-
--- `at` is the larger of the two starts
-pub record LargerStart (a b : Span) (at : ℕ) : Type 0 where
-  pub first : a .from ≤ at
-  pub second : b .from ≤ at
-  pub one : (at ≡ a .from) ⊎ (at ≡ b .from)
 
 -- 8 for two parts, each told by what its span is: they share an octet, and `at` is the larger of their starts
 abbrev pub sharing : (Span → Type 0) → (Span → Type 0) → Fault

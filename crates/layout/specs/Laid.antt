@@ -7,13 +7,14 @@ use mathlib.Core.Logic.{_⊎_}
 use lib.ListN.{length}
 use Rattle.octets.specs.Octet.{octet}
 use Rattle.runs.specs.Params.{Param, Run}
-use Rattle.layout.specs.declared.Span.{Span}
+use Rattle.parts.specs.declared.Span.{Span}
 use Rattle.layout.specs.declared.Shape.{Shape}
-use Rattle.layout.specs.declared.Parts.{Parts}
+use Rattle.parts.specs.declared.Parts.{Parts}
 use Rattle.layout.specs.declared.Row.{Row}
 use Rattle.layout.specs.declared.Row.the-variants.{Has}
-use Rattle.layout.specs.Spans.{span}
-use Rattle.layout.specs.Container.{nothing, startOf, endOf, held}
+use Rattle.parts.specs.Spans.{span}
+use Rattle.layout.specs.Container.{nothing, startOf, endOf}
+use Rattle.parts.specs.Overlap.{held}
 
 -- R8. the pointer at octet p points at t: counted from the pointer itself, not before e, where the pointers end, and within the message
 pub record Points (m : List ℕ) (e p t : ℕ) : Type 0 where

@@ -1,4 +1,3 @@
-pub mod Spans
 pub mod Container
 pub mod Told
 pub mod Laid

@@ -4,13 +4,14 @@ use mathlib.Core.Path.{_≡_}
 use mathlib.Core.List.{List}
 use mathlib.Core.Logic.{_⊎_}
 use lib.ListN.{length}
-use Rattle.layout.specs.declared.Span.{Span}
+use Rattle.parts.specs.declared.Span.{Span}
 use Rattle.layout.specs.declared.Shape.{Shape}
 use Rattle.layout.specs.declared.Row.{Row}
 use Rattle.layout.specs.declared.Row.the-variants.{Has}
 use Rattle.layout.specs.Container.{target, past, startOf, endOf}
 use Rattle.layout.specs.Laid.{Share}
-use Rattle.layout.specs.Faults.{Breaks, NotClosed, LargerStart, VariablePart, OptionalPart}
+use Rattle.layout.specs.Faults.{Breaks, NotClosed, VariablePart, OptionalPart}
+use Rattle.parts.specs.Overlap.{LargerStart}
 
 module _ (m : List ℕ) (w : ℕ) (s : Shape) where
   -- the parts in pointer order: 0, 1 and 2 are the variable parts, 3 is the optional part

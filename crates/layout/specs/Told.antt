@@ -1,14 +1,11 @@
 -- What each case of an answer says, in document 01's terms.
 use Prim.Native.Nat.{ℕ}
 use Rattle.octets.specs.Answer.{Answer, accepted, refused}
-use Rattle.layout.specs.declared.Span.{Span}
-use Rattle.layout.specs.declared.Parts.{Parts}
+use Rattle.parts.specs.declared.Span.{Span}
 use Rattle.layout.specs.declared.Target.{Target}
 use Rattle.layout.specs.declared.Target.the-variants.{At as To, Off}
 use Rattle.layout.specs.declared.Slot.{Slot}
 use Rattle.layout.specs.declared.Slot.the-variants.{At, Bad}
-use Rattle.layout.specs.declared.Body.{Body}
-use Rattle.layout.specs.declared.Body.the-variants.{Laid, Broken}
 
 -- where the pointer at p points, or 5 about the pointer
 abbrev pub targetTold : ℕ → Target → Answer ℕ
@@ -19,8 +16,3 @@ targetTold p Off = refused 5 p
 abbrev pub slotTold : Slot → Answer Span
 slotTold (At s) = accepted s
 slotTold (Bad n at) = refused n at
-
--- where the parts stand, or the number with the octet that it is about
-abbrev pub bodyTold : Body → Answer Parts
-bodyTold (Laid p) = accepted p
-bodyTold (Broken n at) = refused n at

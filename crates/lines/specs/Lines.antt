@@ -9,7 +9,7 @@ use Rattle.octets.specs.Answer.{Answer, accepted, refused}
 use Rattle.octets.specs.Filled.{Done}
 use Rattle.words.specs.Said.{said}
 use Rattle.printing.specs.Shown.{decimalOf, hexOf}
-use Rattle.requests.specs.Table.{roomMost}
+use Rattle.fields.specs.Letters.{roomMost}
 
 -- a word with a number after it
 abbrev pub counted : String → ℕ → List ℕ

@@ -9,7 +9,7 @@ use lib.ListN.{length}
 use Rattle.octets.specs.Answer.{refused}
 use Rattle.runs.specs.Params.{Param, Params, Closes}
 use Rattle.runs.proofs.Steps.{at-param}
-use Rattle.layout.specs.declared.Parts.{Parts}
+use Rattle.parts.specs.declared.Parts.{Parts}
 use Rattle.layout.proofs.Exactly.{run-params}
 use Rattle.family.specs.declared.Offer.{Offer}
 use Rattle.family.specs.declared.Offer.the-variants.{Param as One, Done}

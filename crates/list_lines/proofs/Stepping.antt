@@ -11,7 +11,7 @@ use Rattle.runs.specs.declared.Step.{Step}
 use Rattle.runs.specs.declared.Step.the-variants.{Param as Stands, Close, End, Pass}
 use Rattle.runs.specs.Run.{stepAt}
 use Rattle.runs.proofs.Steps.{step-says}
-use Rattle.layout.specs.declared.Parts.{Parts}
+use Rattle.parts.specs.declared.Parts.{Parts}
 use Rattle.family.specs.declared.Offer.{Offer}
 use Rattle.family.specs.declared.Offer.the-variants.{Param as One, Done}
 use Rattle.family.specs.Family.{Family, readIn}

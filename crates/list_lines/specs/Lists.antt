@@ -7,7 +7,7 @@ use Rattle.octets.specs.Octet.{octets}
 use Rattle.octets.specs.Choice.{if_then_else_}
 use Rattle.octets.specs.Answer.{Answer, accepted, refused}
 use Rattle.runs.specs.Params.{Param}
-use Rattle.layout.specs.declared.Parts.{Parts}
+use Rattle.parts.specs.declared.Parts.{Parts}
 use Rattle.family.specs.declared.Offer.{Offer}
 use Rattle.family.specs.declared.Offer.the-variants.{Param as One, Done}
 use Rattle.family.specs.Family.{Family, readIn}
@@ -16,8 +16,8 @@ use Rattle.isup.specs.Table.{isup}
 use Rattle.bicc.specs.Table.{bicc}
 use Rattle.sccp.specs.Table.{sccp}
 use Rattle.words.specs.Said.{said}
-use Rattle.requests.specs.Kinds.{FieldSays}
-use Rattle.requests.specs.Rows.{LIST, BICC-LIST}
+use Rattle.fields.specs.Kinds.{FieldSays}
+use Rattle.forms.specs.Rows.{LIST, BICC-LIST}
 use Rattle.requests.specs.Words.{octetsAt}
 use Rattle.lines.specs.Lines.{shown, faultLine}
 

@@ -1,6 +1,6 @@
 -- Each way in which reading and finding end.
 use Prim.Native.Nat.{ℕ, _+_, _*_, _≤_, _<_}
-use mathlib.Core.Path.{_≡_, refl, _∙_, ap}
+use mathlib.Core.Path.{_≡_, refl}
 use mathlib.Core.List.{List, [], _∷_}
 use borrow.Author.Tests.{lt-ltb, le-ltb}
 use lib.ListN.{length}
@@ -9,11 +9,8 @@ use Rattle.octets.specs.Filled.{done, filled, roomFor}
 use Rattle.isup.specs.declared.Message.{Message}
 use Rattle.isup.specs.Read.{readOf}
 use Rattle.finding.specs.Find.{Spot, locateOf}
-use Rattle.llachurep.specs.Boundary.{Given, given, givenBy, valuesOf, readGives, findGives}
-
--- a number that was come by otherwise
-pub valued : {v w : ℕ} {l : List ℕ} {g : Given} → v ≡ w → given w l ≡ g → given v l ≡ g
-valued {v} {w} {l} {g} e h = ap (λ (x : ℕ). given x l) e ∙ h
+use Rattle.boundary.specs.Boundary.{given, givenBy}
+use Rattle.llachurep.specs.Gives.{valuesOf, readGives, findGives}
 
 module _ (m parts : List ℕ) where
   pub read-refused : (n at : ℕ) → readOf m ≡ refused n at → given (65536 * n + at) parts ≡ givenBy (readGives m parts)

@@ -16,7 +16,7 @@ use Rattle.isup.proofs.Judged.{read-judges}
 use Rattle.finding.specs.Find.{locateOf}
 use Rattle.finding.specs.Faults.{findFaults}
 use Rattle.finding.proofs.Judged.{locate-judges}
-use Rattle.llachurep.specs.Boundary.{valuesOf, readGives, findGives}
+use Rattle.llachurep.specs.Gives.{valuesOf, readGives, findGives}
 use Rattle.llachurep.specs.Faults.{readGivesFaults, findGivesFaults}
 
 pub read-gives-judges : (m parts : List ℕ) → Judges (readGives m parts .answer) (readGivesFaults m parts)

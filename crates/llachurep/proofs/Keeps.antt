@@ -7,7 +7,7 @@ use Rattle.octets.specs.Filled.{roomFor}
 use Rattle.octets.proofs.Filled.{done-kept}
 use Rattle.isup.specs.Read.{readOf}
 use Rattle.finding.specs.Find.{locateOf}
-use Rattle.llachurep.specs.Boundary.{valuesOf, readGives, findGives}
+use Rattle.llachurep.specs.Gives.{valuesOf, readGives, findGives}
 
 pub read-gives-keeps : (m parts : List ℕ) (n at : ℕ) → readGives m parts .answer ≡ refused n at → readGives m parts .left ≡ parts
 unfolding readGives

@@ -1,10 +1,7 @@
 pub mod Small
 pub mod Places
 pub mod Gives
-pub mod Determined
 pub mod Keeps
 pub mod Judged
 pub mod Numbers
-pub mod Speeds
-pub mod Spoken
 pub mod Refused

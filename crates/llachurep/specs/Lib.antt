@@ -1,4 +1,2 @@
-pub mod Boundary
+pub mod Gives
 pub mod Faults
-pub mod Refuses
-pub mod Velocities

@@ -1,33 +1,17 @@
-// The boundary: the proved functions for C and Rust; those that serve both families of messages are in `families`, BICC's in `calls`, those on the tables of circuits in `circuits`. Answers are one number, 65536 * N + v: N is the refusal's number, 0 where there is none; v is then the octet that it is about, 0 where it is about none. A refusal changes nothing that was lent.
+// The boundary: the proved functions for C and Rust. Here are those on ISUP messages; those that serve all families of messages are in `families`, BICC's in `calls`, SCCP's in `roaming`, called party numbers in `numbers`, the tables of circuits in `circuits`, `occupancy` and `nights`, velocities in `speeds`. Answers are one number, 65536 * N + v: N is the refusal's number, 0 where there is none; v is then the octet that it is about, 0 where it is about none. A refusal changes nothing that was lent.
 ghost use mathlib.Core.Path.{_≡_};
-ghost use Prim.Native.Nat.{ℕ, _+_, _*_, _≤_};
+ghost use Prim.Native.Nat.{_≤_};
 ghost use lib.ListN.{length};
 ghost use mathlib.Core.List.{[], _∷_};
-ghost use Rattle.octets.specs.Answer.{accepted, refused};
 ghost use Rattle.octets.specs.Filled.{done, roomFor, filled};
 ghost use Rattle.isup.specs.Write.{writeOf};
-ghost use Rattle.number.specs.Read.{readNumberOf};
-ghost use Rattle.number.specs.Write.{writeNumberOf};
-ghost use Rattle.octets.specs.Told.{writtenTold};
-ghost use Rattle.layout.specs.Spans.{spanSize};
-ghost use Rattle.llachurep.specs.Boundary.{packed, given, givenBy, fixedStart, valuesOf, Small, readGives, findGives, numberGiven};
-
-pub mod velocities;
-
+ghost use Rattle.parts.specs.Spans.{spanSize};
+ghost use Rattle.boundary.specs.Boundary.{given, givenBy, fixedStart};
+ghost use Rattle.llachurep.specs.Gives.{valuesOf, Small, readGives, findGives};
 use finding::Located;
 use isup::Message;
 use isup::Reading;
-use layout::Span;
-use number::NumberRead;
-use octets::Written;
-
-// A refusal's number and the octet that it is about, as an answer.
-fn refusal(number: u8, place: usize) -> u32
-    requires { ⌜ place ≤ 65535 ⌝ }
-    ensures { λ r. ⌜ r ≡ 65536 * number + place ⌝ }
-{
-    65536 * number as u32 + place as u32
-}
+use parts::Span;
 
 // How many octets a span has.
 fn size_of(span: Span) -> u16
@@ -74,26 +58,15 @@ fn put_values(x: Message, parts: &mut [u16])
 pub extern "C" fn llachurep_read(message: &[u8], parts: &mut [u16]) -> u32
     ensures { λ r. ⌜ given r (now (parts .exit)) ≡ givenBy (readGives (now (message .entry)) (now (parts .entry))) ⌝ }
 {
-    match isup::read(message) {
-        Reading::Refused(n, at) => refusal(n, at),
+    match isup_codec::read(message) {
+        Reading::Refused(n, at) => telling::refusal(n, at),
         Reading::Read(x) => {
             if parts.len() < 10 {
-                return refusal(13, 0);
+                return telling::refusal(13, 0);
             }
             put_values(x, parts);
             10
         }
-    }
-}
-
-// What all that fill a lent buffer answer, as one number.
-fn written(answer: Written) -> u32
-    requires { ⌜ ((n : ℕ) → writtenTold answer ≡ accepted n → n ≤ 65535) × ((n at : ℕ) → writtenTold answer ≡ refused n at → at ≤ 65535) ⌝ }
-    ensures { λ r. ⌜ r ≡ packed (writtenTold answer) ⌝ }
-{
-    match answer {
-        Written::Octets(n) => n as u32,
-        Written::Refused(n, at) => refusal(n, at),
     }
 }
 
@@ -110,7 +83,7 @@ pub extern "C" fn llachurep_write(
 ) -> u32
     ensures { λ r. ⌜ given r (now (out .exit)) ≡ givenBy (writeOf circuit kind (now (fixed .entry)) (now (first .entry)) (now (second .entry)) (now (optional .entry)) (now (out .entry))) ⌝ }
 {
-    written(isup::write(circuit, kind, fixed, first, second, optional, out))
+    telling::written(isup_codec::write(circuit, kind, fixed, first, second, optional, out))
 }
 
 // Gives a stretch's start and length, or 13.
@@ -118,7 +91,7 @@ fn give_stretch(at: usize, len: usize, holder: u32, stretch: &mut [usize]) -> u3
     ensures { λ r. ⌜ given r (now (stretch .exit)) ≡ givenBy (done (now (stretch .entry)) (roomFor (now (stretch .entry)) (holder, at ∷ len ∷ []))) ⌝ }
 {
     if stretch.len() < 2 {
-        return refusal(13, 0);
+        return telling::refusal(13, 0);
     }
     stretch[0] = at;
     stretch[1] = len;
@@ -135,39 +108,9 @@ pub extern "C" fn llachurep_find(
 ) -> u32
     ensures { λ r. ⌜ given r (now (stretch .exit)) ≡ givenBy (findGives (now (message .entry)) (now (defaults .entry)) name (now (stretch .entry))) ⌝ }
 {
-    match finding::locate(message, defaults, name) {
+    match locating::locate(message, defaults, name) {
         Located::Message(at, len) => give_stretch(at, len, 0, stretch),
         Located::Defaults(at, len) => give_stretch(at, len, 100, stretch),
-        Located::Refused(n, at) => refusal(n, at),
+        Located::Refused(n, at) => telling::refusal(n, at),
     }
-}
-
-// Reads a called party number, its signals to the front of `signals`. Answers 4294967296 * N + 65536 * nature + 4096 * internal + 256 * plan + count. Refused with 14, then 13.
-#[no_mangle]
-pub extern "C" fn llachurep_number_read(contents: &[u8], signals: &mut [u8]) -> u64
-    ensures { λ r. ⌜ given r (now (signals .exit)) ≡ numberGiven (readNumberOf (now (contents .entry)) (now (signals .entry))) ⌝ }
-{
-    match number::read_number(contents, signals) {
-        NumberRead::Refused(n) => 4294967296 * n as u64,
-        NumberRead::Read(x) => {
-            65536 * x.nature as u64
-                + 4096 * x.internal as u64
-                + 256 * x.plan as u64
-                + x.count as u64
-        }
-    }
-}
-
-// Writes a called party number to the front of `out`. Accepted: how many octets were written. Refused with 14, then 13.
-#[no_mangle]
-pub extern "C" fn llachurep_number_write(
-    nature: u32,
-    plan: u32,
-    internal: u32,
-    signals: &[u8],
-    out: &mut [u8],
-) -> u32
-    ensures { λ r. ⌜ given r (now (out .exit)) ≡ givenBy (writeNumberOf nature plan internal (now (signals .entry)) (now (out .entry))) ⌝ }
-{
-    written(number::write_number(nature, plan, internal, signals, out))
 }

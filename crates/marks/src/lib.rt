@@ -43,7 +43,7 @@ pub fn marks_in(range: u8, status: &[u8]) -> usize
 pub fn status_octet(range: u8, status: &[u8], j: usize) -> u8
     ensures { λ r. ⌜ r ≡ statusOctet range (now (status .entry)) j ⌝ }
 {
-    let octet = rows::octet_at(status, j);
+    let octet = changes::octet_at(status, j);
     if j < (range / 8) as usize {
         return octet;
     }
@@ -68,7 +68,7 @@ pub fn locked_octet(range: u8, group: &[u8], j: u8) -> u8
     let mut octet = 0u8;
     while bit > 0 {
         bit -= 1;
-        let row = rows::octet_at(group, 8 * j as usize + bit as usize);
+        let row = changes::octet_at(group, 8 * j as usize + bit as usize);
         octet = octet * 2 + row / 8 % 2;
     }
     octet

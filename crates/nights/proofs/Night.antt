@@ -10,15 +10,16 @@ use Rattle.octets.specs.Octet.{AllOctets}
 use Rattle.octets.specs.Answer.{Answer, accepted, refused}
 use Rattle.octets.specs.Filled.{leaving}
 use Rattle.octets.proofs.Answer.{one-answer}
+use Rattle.telling.specs.Telling.{packed}
 use Rattle.layout.specs.Container.{bit}
-use Rattle.hub.specs.Tables.{Tables}
+use Rattle.rights.specs.Tables.{Tables}
 use Rattle.plans.specs.Turns.{GoodPlan, checkAt}
 use Rattle.plans.proofs.Turns.{check-exactly}
 use Rattle.planning.specs.Outcome.{plannedOf}
 use Rattle.planning.proofs.Outcome.{plan-checks, plan-keeps}
-use Rattle.llachurep.specs.Boundary.{packed, Given, given, givenBy}
-use Rattle.llachurep.specs.Refuses.{Refuses}
-use Rattle.llachurep.proofs.Refused.{by-32-wide}
+use Rattle.boundary.specs.Boundary.{Given, given, givenBy}
+use Rattle.boundary.specs.Refuses.{Refuses}
+use Rattle.boundary.proofs.Refused.{by-32-wide}
 use Rattle.nights.proofs.Small.{plan-small, plan-bare}
 
 -- 1 is yes, and nothing else is

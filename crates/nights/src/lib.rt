@@ -1,34 +1,11 @@
-// The boundary's functions for a maintenance night: the plan, and its check. With `llachurep`, `families`, `calls`, `roaming` and `circuits` they are one library for C and Rust.
+// The boundary's functions for a maintenance night: the plan, and its check. With `llachurep` and its like they are one library for C and Rust.
 // They are a crate of their own so that its object has one reader, which the compiler puts where it is called.
 ghost use mathlib.Core.Path.{_≡_};
-ghost use Prim.Native.Nat.{ℕ, _+_, _*_, _≤_};
-ghost use Rattle.octets.specs.Answer.{accepted, refused};
-ghost use Rattle.octets.specs.Told.{writtenTold};
 ghost use Rattle.layout.specs.Container.{bit};
-ghost use Rattle.hub.specs.Tables.{tables};
+ghost use Rattle.rights.specs.Tables.{tables};
 ghost use Rattle.plans.specs.Turns.{checkAt};
 ghost use Rattle.planning.specs.Outcome.{plannedOf};
-ghost use Rattle.llachurep.specs.Boundary.{packed, given, givenBy};
-use octets::Written;
-
-// A refusal's number and the octet that it is about, as an answer.
-fn refusal(number: u8, place: usize) -> u32
-    requires { ⌜ place ≤ 65535 ⌝ }
-    ensures { λ r. ⌜ r ≡ 65536 * number + place ⌝ }
-{
-    65536 * number as u32 + place as u32
-}
-
-// What all that fill a lent buffer answer, as one number.
-fn written(answer: Written) -> u32
-    requires { ⌜ ((n : ℕ) → writtenTold answer ≡ accepted n → n ≤ 65535) × ((n at : ℕ) → writtenTold answer ≡ refused n at → at ≤ 65535) ⌝ }
-    ensures { λ r. ⌜ r ≡ packed (writtenTold answer) ⌝ }
-{
-    match answer {
-        Written::Octets(n) => n as u32,
-        Written::Refused(n, at) => refusal(n, at),
-    }
-}
+ghost use Rattle.boundary.specs.Boundary.{given, givenBy};
 
 // A plan that blocks the ticked circuits by messages of the sender: for maintenance where `kind` is 0, for hardware where it is 1. Accepted: how many octets the plan has, at the front of `plan`. Refused with 16, 14, 20, 25, 13.
 #[no_mangle]
@@ -44,7 +21,7 @@ pub extern "C" fn llachurep_plan(
     ensures { λ r. ⌜ given r (now (plan .exit)) ≡
         givenBy (plannedOf (tables (now (states .entry)) (now (owners .entry)) (now (helpers .entry))) (now (ticks .entry)) sender kind (now (plan .entry))) ⌝ }
 {
-    written(planning::plan(states, owners, helpers, ticks, sender, kind, plan))
+    telling::written(laying::plan(states, owners, helpers, ticks, sender, kind, plan))
 }
 
 // Whether a plan is good, whoever made it: 1 for yes, 0 for no. It refuses nothing: a table of wrong length, a kind other than 0 or 1 and a plan cut off are no.
@@ -61,7 +38,7 @@ pub extern "C" fn llachurep_check_plan(
     ensures { λ r. ⌜ r ≡
         bit (checkAt (tables (now (states .entry)) (now (owners .entry)) (now (helpers .entry))) (now (ticks .entry)) sender kind (now (plan .entry))) ⌝ }
 {
-    if plans::check_plan(states, owners, helpers, ticks, sender, kind, plan) {
+    if checking::check_plan(states, owners, helpers, ticks, sender, kind, plan) {
         return 1;
     }
     0

@@ -1,4 +1,4 @@
--- What the contracts say is all: any two outcomes that a contract allows are equal, and a refusal keeps the lent buffer.
+-- What the contract of reading says is all: any two outcomes that it allows are equal, and a refusal keeps the lent buffer.
 use Prim.Native.Nat.{ℕ}
 use mathlib.Core.Path.{_≡_, sym, _∙_, ap}
 use mathlib.Core.List.{List}
@@ -9,12 +9,7 @@ use Rattle.octets.proofs.Filled.{done-kept}
 use Rattle.number.specs.declared.Number.{Number}
 use Rattle.number.specs.declared.NumberRead.{NumberRead}
 use Rattle.number.specs.declared.NumberRead.the-variants as read
-use Rattle.octets.specs.declared.Written.{Written}
-use Rattle.octets.specs.declared.Written.the-variants.{Refused}
-use Rattle.octets.specs.Told.{writtenTold}
-use Rattle.octets.proofs.Told.{writing-determined, writing-keeps}
 use Rattle.number.specs.Read.{numberIn, readNumberOf, readAnswer}
-use Rattle.number.specs.Write.{numberOctets, writeNumberOf}
 
 -- answers with the same values or the same number are the same answer
 pub read-answer-one : (r s : NumberRead) → readAnswer r ≡ readAnswer s → r ≡ s
@@ -30,18 +25,7 @@ read-number-determined contents buffer {r = r} {s = s} p q =
     let e = one-answer p q in
     (read-answer-one r s (ap (λ (d : Done Number). d .answer) e), ap (λ (d : Done Number). d .left) e)
 
--- any two outcomes of writing are equal
-pub write-number-determined : (nature plan internal : ℕ) (signals buffer : List ℕ) {r s : Written} {left rest : List ℕ} →
-    leaving (writtenTold r) left ≡ writeNumberOf nature plan internal signals buffer → leaving (writtenTold s) rest ≡ writeNumberOf nature plan internal signals buffer → (r ≡ s) × (left ≡ rest)
-write-number-determined nature plan internal signals buffer {r = r} {s = s} p q =
-    writing-determined (writeNumberOf nature plan internal signals buffer) r s _ _ p q
-
 -- a refusal to read keeps the buffer
 pub read-number-keeps : (contents buffer : List ℕ) {n : ℕ} {left : List ℕ} → leaving (readAnswer (read.Refused n)) left ≡ readNumberOf contents buffer → left ≡ buffer
 read-number-keeps contents buffer e =
     ap (λ (d : Done Number). d .left) e ∙ done-kept buffer (numberIn contents then roomFor buffer) (sym (ap (λ (d : Done Number). d .answer) e))
-
--- a refusal to write keeps the buffer
-pub write-number-keeps : (nature plan internal : ℕ) (signals buffer : List ℕ) {n at : ℕ} {left : List ℕ} → leaving (writtenTold (Refused n at)) left ≡ writeNumberOf nature plan internal signals buffer → left ≡ buffer
-write-number-keeps nature plan internal signals buffer e =
-    writing-keeps buffer (numberOctets nature plan internal signals then roomFor buffer) _ _ _ e

@@ -1,5 +1,5 @@
 -- The number of a refusal is that of the first fault; accepted is what has none.
-use Prim.Native.Nat.{ℕ, _+_, _/_}
+use Prim.Native.Nat.{ℕ}
 use mathlib.Core.Path.{_≡_, sym, _∙_, ap}
 use mathlib.Core.List.{List, [], _∷_}
 use native.Mathlib.Omega.{arith}
@@ -12,15 +12,13 @@ use Rattle.octets.proofs.Faults.{judges-if, judges-then, judges-done}
 use Rattle.number.specs.Contents.{oddBit, halfCount, countIn, fillerIn}
 use Rattle.octets.specs.Filled.{roomFor}
 use Rattle.number.specs.Read.{numberIn, readNumberOf}
-use Rattle.number.specs.Write.{anyAbove15, numberOctets, writeNumberOf}
-use Rattle.number.specs.Faults.{TooShort, contentsFaults, readFaults, valuesFaults, numberWriteFaults}
-use Rattle.number.proofs.Laws.{length-signals, found-above, none-above}
+use Rattle.number.specs.Faults.{TooShort, contentsFaults, readFaults}
+use Rattle.number.proofs.Laws.{length-signals}
 use Rattle.octets.proofs.Filled.{judges-filled}
 use Rattle.number.proofs.ReadExactly.{filler-odd, filler-some, number-found}
-use Rattle.number.proofs.WriteExactly.{octets-found, length-found}
 
 -- too short a buffer for n octets is the one fault of the room
-room-judged : {A : Type 0} (buffer : List ℕ) (x : A × List ℕ) (n : ℕ) → length (x .1) ≡ n → Judges (roomFor buffer x) (fault 13 0 (TooShort buffer n) ∷ [])
+pub room-judged : {A : Type 0} (buffer : List ℕ) (x : A × List ℕ) (n : ℕ) → length (x .1) ≡ n → Judges (roomFor buffer x) (fault 13 0 (TooShort buffer n) ∷ [])
 room-judged buffer x n e =
     judges-if (ltb (length buffer) (length (x .1)))
     (λ t. omega (arith, ltb-true (length buffer) (length (x .1)) t))
@@ -49,21 +47,3 @@ read-number-judged contents buffer =
     (judges-then (numberIn contents) (roomFor buffer) (contentsFaults contents) (fault 13 0 (TooShort buffer (countIn contents)) ∷ [])
     (contents-judged contents)
     (λ x e. room-judged buffer x (countIn contents) (ap length (sym (number-found contents (x .0) (x .1) e .signals)) ∙ length-signals contents)))
-
--- the faults of values and signals, each as its test finds it
-values-judged : (nature plan internal : ℕ) (signals : List ℕ) → Judges (numberOctets nature plan internal signals) (valuesFaults nature plan internal signals)
-values-judged nature plan internal signals =
-    judges-if (ltb 127 nature) (ltb-true 127 nature) (λ t h. omega (arith, ltb-false 127 nature t)) (λ t.
-    judges-if (ltb 7 plan) (ltb-true 7 plan) (λ t h. omega (arith, ltb-false 7 plan t)) (λ t.
-    judges-if (ltb 1 internal) (ltb-true 1 internal) (λ t h. omega (arith, ltb-false 1 internal t)) (λ t.
-    judges-if (ltb 30 (length signals)) (ltb-true 30 (length signals)) (λ t h. omega (arith, ltb-false 30 (length signals) t)) (λ t.
-    judges-if (anyAbove15 signals) (found-above signals) (λ t h. let k = none-above signals t (h .0) in omega arith) (λ t.
-    judges-done _)))))
-
--- writing refuses with the first fault, and accepts where there is none
-pub write-number-judged : (nature plan internal : ℕ) (signals buffer : List ℕ) → Judges (writeNumberOf nature plan internal signals buffer .answer) (numberWriteFaults nature plan internal signals buffer)
-write-number-judged nature plan internal signals buffer =
-    judges-filled buffer (numberOctets nature plan internal signals then roomFor buffer) (numberWriteFaults nature plan internal signals buffer)
-    (judges-then (numberOctets nature plan internal signals) (roomFor buffer) (valuesFaults nature plan internal signals) (fault 13 0 (TooShort buffer (2 + (length signals + 1) / 2)) ∷ [])
-    (values-judged nature plan internal signals)
-    (λ x e. room-judged buffer x (2 + (length signals + 1) / 2) (length-found (octets-found nature plan internal signals (x .0) (x .1) e))))

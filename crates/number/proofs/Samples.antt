@@ -1,14 +1,13 @@
--- The contents of document 01, and a few beside them.
+-- The contents of document 01 and a few beside them, as they are read.
 use Prim.Native.Nat.{ℕ}
 use mathlib.Core.Path.{_≡_, refl}
 use mathlib.Core.List.{List, [], _∷_, _++_}
 use lib.ListN.{replicate}
 use Rattle.octets.specs.Answer.{accepted, refused}
-use Rattle.number.specs.Halves.{halves, twoToAnOctet}
+use Rattle.number.specs.Halves.{halves}
 use Rattle.number.specs.Contents.{signalsIn}
 use Rattle.octets.specs.Filled.{leaving}
 use Rattle.number.specs.Read.{numberIn, readNumberOf}
-use Rattle.number.specs.Write.{anyAbove15, numberOctets}
 
 -- 83 10 21 03 (hex)
 abbrev pub contents123 : List ℕ
@@ -27,16 +26,6 @@ reads-123 = refl
 pub reads-1234 : numberIn contents1234 ≡ accepted (record { nature = 3; plan = 1; internal = 0; count = 4 }, 1 ∷ 2 ∷ 3 ∷ 4 ∷ [])
 unfolding signalsIn halves
 reads-1234 = refl
-
--- 123 is written 83 10 21 03
-pub writes-123 : numberOctets 3 1 0 (1 ∷ 2 ∷ 3 ∷ []) ≡ accepted (4, contents123)
-unfolding anyAbove15 twoToAnOctet
-writes-123 = refl
-
--- 1234 is written 03 10 21 43
-pub writes-1234 : numberOctets 3 1 0 (1 ∷ 2 ∷ 3 ∷ 4 ∷ []) ≡ accepted (4, contents1234)
-unfolding anyAbove15 twoToAnOctet
-writes-1234 = refl
 
 -- two octets and even is a number with no signals, whatever the spare bits
 pub reads-none : numberIn (3 ∷ 31 ∷ []) ≡ accepted (record { nature = 3; plan = 1; internal = 0; count = 0 }, [])

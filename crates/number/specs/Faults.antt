@@ -1,8 +1,8 @@
--- R25. What refuses a number, in the order of checking: 14, then 13.
-use Prim.Native.Nat.{ℕ, _+_, _/_, _<_}
+-- R25. What refuses contents to read, in the order of checking: 14, then 13.
+use Prim.Native.Nat.{ℕ, _<_}
 use mathlib.Core.Path.{_≡_}
 use mathlib.Core.List.{List, [], _∷_, _++_}
-use lib.ListN.{getD, length}
+use lib.ListN.{length}
 use Rattle.octets.specs.Faults.{Fault, fault}
 use Rattle.number.specs.Contents.{oddBit, lastHalf, countIn}
 
@@ -22,10 +22,6 @@ FillerNot0 contents = (oddBit contents ≡ 1) × (lastHalf contents ≡ 0 → �
 abbrev pub MoreThan30 : ℕ → Type 0
 MoreThan30 count = 30 < count
 
--- a signal above 15
-abbrev pub SignalAbove15 : List ℕ → Type 0
-SignalAbove15 signals = (k : ℕ) × (k < length signals) × (15 < getD signals k 0)
-
 -- lent output too short for n octets
 abbrev pub TooShort : List ℕ → ℕ → Type 0
 TooShort buffer n = length buffer < n
@@ -42,18 +38,3 @@ contentsFaults contents =
 -- the faults of reading: those of the contents, then 13 for a buffer too short for the signals, one to an octet
 abbrev pub readFaults : List ℕ → List ℕ → List Fault
 readFaults contents buffer = contentsFaults contents ++ (fault 13 0 (TooShort buffer (countIn contents)) ∷ [])
-
--- R25. the faults of values and signals: 14
-abbrev pub valuesFaults : ℕ → ℕ → ℕ → List ℕ → List Fault
-valuesFaults nature plan internal signals =
-    fault 14 0 (127 < nature)
-    ∷ fault 14 0 (7 < plan)
-    ∷ fault 14 0 (1 < internal)
-    ∷ fault 14 0 (MoreThan30 (length signals))
-    ∷ fault 14 0 (SignalAbove15 signals)
-    ∷ []
-
--- the faults of writing: those of the values and signals, then 13 for a buffer too short for two octets, one for each two signals, and one for a signal that is left over
-abbrev pub numberWriteFaults : ℕ → ℕ → ℕ → List ℕ → List ℕ → List Fault
-numberWriteFaults nature plan internal signals buffer =
-    valuesFaults nature plan internal signals ++ (fault 13 0 (TooShort buffer (2 + (length signals + 1) / 2)) ∷ [])

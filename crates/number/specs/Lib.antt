@@ -1,6 +1,5 @@
 pub mod Halves
 pub mod Contents
 pub mod Read
-pub mod Write
 pub mod WellFormed
 pub mod Faults

@@ -3,7 +3,6 @@ use Prim.Native.Nat.{ℕ, _+_, _*_, _/_, _%_, _<_, _≤_}
 use mathlib.Core.Path.{_≡_}
 use mathlib.Core.List.{List}
 use lib.ListN.{getD, length, set}
-use Rattle.octets.specs.Octet.{AllOctets}
 use Rattle.number.specs.declared.Number.{Number}
 use Rattle.number.specs.Halves.{lowHalf, highHalf}
 use Rattle.number.specs.Contents.{oddBit, natureIn, planIn, internalIn}
@@ -30,12 +29,3 @@ pub record WellFormedNumber (contents : List ℕ) (number : Number) (signals : L
 -- the four spare bits of octet 1 made 0
 abbrev pub spareless : List ℕ → List ℕ
 spareless contents = set contents 1 (getD contents 1 0 / 16 * 16)
-
--- the octets are the number with these values and these signals whose spare bits are 0
-pub record WrittenNumber (nature plan internal : ℕ) (signals octets : List ℕ) : Type 0 where
-  -- each is an octet
-  pub each : AllOctets octets
-  -- they are well formed, with these values and these signals
-  pub number : WellFormedNumber octets (record { nature = nature; plan = plan; internal = internal; count = length signals }) signals
-  -- the four spare bits are 0
-  pub spare : getD octets 1 0 % 16 ≡ 0

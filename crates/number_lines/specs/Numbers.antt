@@ -8,9 +8,9 @@ use Rattle.octets.specs.Answer.{Answer, accepted, refused}
 use Rattle.octets.specs.Filled.{Done}
 use Rattle.number.specs.declared.Number.{Number}
 use Rattle.number.specs.Read.{readNumberOf}
-use Rattle.number.specs.Write.{writeNumberOf}
-use Rattle.requests.specs.Kinds.{FieldSays}
-use Rattle.requests.specs.Rows.{NUMBER}
+use Rattle.dialling.specs.Write.{writeNumberOf}
+use Rattle.fields.specs.Kinds.{FieldSays}
+use Rattle.forms.specs.Rows.{NUMBER}
 use Rattle.requests.specs.Words.{numberAt, octetsAt}
 use Rattle.lines.specs.Lines.{counted, shown, refusal, octetsLine, lent}
 

@@ -1,13 +1,13 @@
 // What the desk answers to the requests for called party numbers: number, dial.
 ghost use mathlib.Core.Path.{_≡_};
 ghost use Rattle.number.specs.Read.{readAnswer, readNumberOf};
-ghost use Rattle.number.specs.Write.{writeNumberOf};
+ghost use Rattle.dialling.specs.Write.{writeNumberOf};
 ghost use Rattle.printing.specs.Sheet.{sheet, pour};
 ghost use Rattle.requests.specs.Along.{saidIn};
 ghost use Rattle.lines.specs.Lines.{octetsLine, lent};
 ghost use Rattle.number_lines.specs.Numbers.{signalsLine, numberLine, numbersLine};
+use forms::NUMBER;
 use number::NumberRead;
-use requests::NUMBER;
 use requests::Request;
 
 // What reading a number found, its signals at the front of a buffer.
@@ -15,14 +15,14 @@ fn say_values(values: NumberRead, buffer: &[u8], out: &mut [u8]) -> usize
     ensures { λ r. ⌜ sheet (now (out .exit)) r ≡ pour (sheet (now (out .entry)) 0) (signalsLine (readAnswer values) (now (buffer .entry))) ⌝ }
 {
     match values {
-        NumberRead::Refused(n) => lines::say_refusal(n, out),
+        NumberRead::Refused(n) => sayings::say_refusal(n, out),
         NumberRead::Read(x) => {
-            let nature = lines::put_count(b"nature ", x.nature as u32, out, 0);
-            let plan = lines::put_count(b" plan ", x.plan as u32, out, nature);
-            let internal = lines::put_count(b" internal ", x.internal as u32, out, plan);
-            lines::put_shown(
+            let nature = sayings::put_count(b"nature ", x.nature as u32, out, 0);
+            let plan = sayings::put_count(b" plan ", x.plan as u32, out, nature);
+            let internal = sayings::put_count(b" internal ", x.internal as u32, out, plan);
+            sayings::put_shown(
                 b" signals ",
-                lines::stretch(buffer, 0, x.count),
+                pieces::stretch(buffer, 0, x.count),
                 out,
                 internal,
             )
@@ -34,9 +34,9 @@ fn say_values(values: NumberRead, buffer: &[u8], out: &mut [u8]) -> usize
 fn say_number(contents: &[u8], room: usize, out: &mut [u8]) -> usize
     ensures { λ r. ⌜ sheet (now (out .exit)) r ≡ pour (sheet (now (out .entry)) 0) (numberLine (readNumberOf (now (contents .entry)) (lent room))) ⌝ }
 {
-    let mut space = lines::blank_space();
-    let buffer = lines::front(&mut space, room);
-    let values = number::read_number(contents, buffer);
+    let mut space = pieces::blank_space();
+    let buffer = pieces::front(&mut space, room);
+    let values = signals::read_number(contents, buffer);
     say_values(values, buffer, out)
 }
 
@@ -51,10 +51,10 @@ fn say_dial(
 ) -> usize
     ensures { λ r. ⌜ sheet (now (out .exit)) r ≡ pour (sheet (now (out .entry)) 0) (octetsLine (writeNumberOf nature plan internal (now (signals .entry)) (lent room))) ⌝ }
 {
-    let mut space = lines::blank_space();
-    let buffer = lines::front(&mut space, room);
-    let written = number::write_number(nature, plan, internal, signals, buffer);
-    lines::say_written(written, buffer, out)
+    let mut space = pieces::blank_space();
+    let buffer = pieces::front(&mut space, room);
+    let written = keying::write_number(nature, plan, internal, signals, buffer);
+    sayings::say_written(written, buffer, out)
 }
 
 // Puts the answer's line to a request for a called party number at the front of `out`, and answers the next place. What `out` has no room for is left out.
@@ -66,7 +66,7 @@ pub fn numbers_line(request: Request, octets: &[u8], out: &mut [u8]) -> usize
         let contents = fields[0];
         let room = fields[1];
         return say_number(
-            lines::stretch(octets, contents.from, contents.count as usize),
+            pieces::stretch(octets, contents.from, contents.count as usize),
             room.value as usize,
             out,
         );
@@ -80,7 +80,7 @@ pub fn numbers_line(request: Request, octets: &[u8], out: &mut [u8]) -> usize
         nature.value,
         plan.value,
         internal.value,
-        lines::stretch(octets, signals.from, signals.count as usize),
+        pieces::stretch(octets, signals.from, signals.count as usize),
         room.value as usize,
         out,
     )

@@ -3,7 +3,7 @@ use Prim.Native.Nat.{ℕ}
 use mathlib.Core.Path.{_≡_, ap}
 use mathlib.Core.List.{List}
 use Rattle.octets.proofs.Answer.{one-answer}
-use Rattle.hub.specs.Tables.{Tables}
+use Rattle.rights.specs.Tables.{Tables}
 use Rattle.printing.specs.Sheet.{Sheet, sheet}
 use Rattle.requests.specs.declared.Request.{Request}
 use Rattle.requests.specs.Along.{saidIn}

@@ -15,14 +15,14 @@ use Rattle.octets.specs.Answer.{Answer, accepted, refused}
 use Rattle.octets.specs.Filled.{leaving}
 use Rattle.octets.specs.Applied.{spread}
 use Rattle.octets.proofs.Applied.{applied-in, applied-below, applied-past}
-use Rattle.hub.specs.Tables.{Tables}
+use Rattle.rights.specs.Tables.{Tables}
 use Rattle.plans.specs.Turns.{GoodPlan, checkAt}
 use Rattle.plans.proofs.Turns.{check-exactly}
 use Rattle.planning.specs.Outcome.{plannedOf}
 use Rattle.planning.proofs.Outcome.{plan-checks}
 use Rattle.words.specs.Said.{said}
-use Rattle.requests.specs.Kinds.{FieldSays}
-use Rattle.requests.specs.Rows.{TICK, PLAN, CHECK}
+use Rattle.fields.specs.Kinds.{FieldSays}
+use Rattle.forms.specs.Rows.{TICK, PLAN, CHECK}
 use Rattle.requests.specs.Words.{numberAt, octetAt, octetsAt}
 use Rattle.lines.specs.Lines.{shown, refusal, writtenLine}
 use Rattle.plan_lines.specs.Night.{planLent, planLine, checkedLine, nightAfter, nightDone}

@@ -6,14 +6,14 @@ use lib.Dec.{eqb}
 use lib.ListN.{take, replicate}
 use Rattle.octets.specs.Choice.{if_then_else_}
 use Rattle.octets.specs.Applied.{spread}
-use Rattle.hub.specs.Tables.{Tables}
+use Rattle.rights.specs.Tables.{Tables}
 use Rattle.plans.specs.Turns.{checkAt}
 use Rattle.planning.specs.Outcome.{plannedOf}
 use Rattle.words.specs.Said.{said}
 use Rattle.printing.specs.Sheet.{Sheet, pour}
-use Rattle.requests.specs.Kinds.{FieldSays}
-use Rattle.requests.specs.Table.{planMost}
-use Rattle.requests.specs.Rows.{TICK, PLAN}
+use Rattle.fields.specs.Kinds.{FieldSays}
+use Rattle.fields.specs.Letters.{planMost}
+use Rattle.forms.specs.Rows.{TICK, PLAN}
 use Rattle.requests.specs.Words.{numberAt, octetAt, octetsAt}
 use Rattle.lines.specs.Lines.{octetsLine}
 

@@ -8,9 +8,10 @@ use borrow.Author.Tests.{lt-ltb, le-ltb, lt-leb, eq-eqb, ne-eqb}
 use lib.Dec.{eqb, ltb, leb}
 use lib.ListN.{length}
 use Rattle.octets.specs.Answer.{accepted, _then_}
-use Rattle.layout.specs.declared.Span.{Span}
-use Rattle.layout.specs.Spans.{span}
-use Rattle.layout.specs.Container.{partsOf, containerOf, variableSlot, variableAt, optionalSlot, judged, sharesOf, held}
+use Rattle.parts.specs.declared.Span.{Span}
+use Rattle.parts.specs.Spans.{span}
+use Rattle.layout.specs.Container.{partsOf, containerOf, variableSlot, variableAt, optionalSlot}
+use Rattle.parts.specs.Overlap.{judged, sharesOf, held}
 use Rattle.isup.specs.declared.Message.{Message}
 use Rattle.isup.specs.Table.{shapeOf}
 use Rattle.isup.specs.Read.{readOf}

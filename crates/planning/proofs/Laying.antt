@@ -13,25 +13,20 @@ use Rattle.octets.specs.Filled.{leaving}
 use Rattle.octets.proofs.Choice.{decided}
 use Rattle.octets.proofs.Filled.{sets-filled}
 use Rattle.writing.proofs.Storing.{sets-append}
-use Rattle.hub.specs.Tables.{Tables}
-use Rattle.hub.specs.Rights.{firstIllegal, isFound}
+use Rattle.rights.specs.Tables.{Tables}
+use Rattle.rights.specs.Rights.{firstIllegal, isFound}
 use Rattle.plans.specs.Turns.{mayBlock}
 use Rattle.plans.specs.Frames.{framed}
 use Rattle.plans.specs.Plans.{ticked, messages}
-use Rattle.surveys.specs.Surveys.{tickCount, canPlan, isStuck}
+use Rattle.surveys.specs.declared.Survey.{Survey}
+use Rattle.surveys.specs.declared.Survey.the-variants.{Illegal, Stuck, Ticked}
+use Rattle.surveys.specs.Surveys.{tickCount, canPlan, isStuck, surveyOf}
 use Rattle.planning.specs.Planner.{inRow, stepFor, planFrom, planOf}
 use Rattle.planning.specs.Outcome.{frame, PlanReady, planFor, plannedIn, plannedOf}
 use Rattle.planning.proofs.Runs.{row-most, row-ticked, row-some, ticked-low, plan-room}
 use Rattle.planning.proofs.Stuck.{unstuck-is, can-plan-so}
-use Rattle.surveys.proofs.Looks.{past-table}
+use Rattle.surveys.proofs.Looks.{tally-most, told-illegal, told-stuck, told-ticked, past-table}
 use Rattle.planning.proofs.Counts.{row-ends}
-
--- ---- the looks over tables of 4096
-pub illegal-in : (states : List ℕ) (r t : Bool) → length states ≡ 4096 → r ≡ isFound (firstIllegal states 0 (length states)) → r ≡ t → isFound (firstIllegal states 0 4096) ≡ t
-illegal-in states r t l e h = ap (λ (n : ℕ). isFound (firstIllegal states 0 n)) (sym l) ∙ sym e ∙ h
-
-pub ticks-in : (ticks : List ℕ) (r : ℕ) → length ticks ≡ 4096 → r ≡ tickCount (ticked ticks) 0 (length ticks) → r ≡ tickCount (ticked ticks) 0 4096
-ticks-in ticks r l e = e ∙ ap (tickCount (ticked ticks) 0) l
 
 -- ---- what is left to lay
 module _ (kind : ℕ) (can tick : ℕ → Bool) where
@@ -165,24 +160,43 @@ module _ (T : Tables) (ticks : List ℕ) (sender kind : ℕ) (buffer : List ℕ)
           unfolding plannedOf plannedIn
           out-kind h = rw (eq-eqb _ _ p, eq-eqb _ _ q, eq-eqb _ _ x, eq-eqb _ _ r, lt-ltb _ _ h)
 
-          module _ (k : kind ≤ 1) where
-            pub out-illegal : isFound (firstIllegal (T .states) 0 4096) ≡ true → leaving (refused 20 0) buffer ≡ plannedOf T ticks sender kind buffer
+          module _ (k : kind ≤ 1) (s : Survey) (e : s ≡ surveyOf (T .states) kind (mayBlock kind (T .owners) (T .helpers) sender) (ticked ticks)) where
+            pub out-illegal : s ≡ Illegal → leaving (refused 20 0) buffer ≡ plannedOf T ticks sender kind buffer
             unfolding plannedOf plannedIn
-            out-illegal h = rw (eq-eqb _ _ p, eq-eqb _ _ q, eq-eqb _ _ x, eq-eqb _ _ r, le-ltb _ _ k, h)
+            out-illegal h = rw (eq-eqb _ _ p, eq-eqb _ _ q, eq-eqb _ _ x, eq-eqb _ _ r, le-ltb _ _ k, told-illegal (T .states) kind (mayBlock kind (T .owners) (T .helpers) sender) (ticked ticks) (sym e ∙ h))
 
-            module _ (g : isFound (firstIllegal (T .states) 0 4096) ≡ false) where
-              pub out-stuck : isStuck kind (mayBlock kind (T .owners) (T .helpers) sender) (ticked ticks) ≡ true → leaving (refused 25 0) buffer ≡ plannedOf T ticks sender kind buffer
+            pub out-stuck : s ≡ Stuck → leaving (refused 25 0) buffer ≡ plannedOf T ticks sender kind buffer
+            unfolding plannedOf plannedIn
+            out-stuck h =
+                let t = told-stuck (T .states) kind (mayBlock kind (T .owners) (T .helpers) sender) (ticked ticks) (sym e ∙ h) in
+                rw (eq-eqb _ _ p, eq-eqb _ _ q, eq-eqb _ _ x, eq-eqb _ _ r, le-ltb _ _ k, t .0, t .1)
+
+            module _ (count : ℕ) (h : s ≡ Ticked count) where
+              counted : (isFound (firstIllegal (T .states) 0 4096) ≡ false) × (isStuck kind (mayBlock kind (T .owners) (T .helpers) sender) (ticked ticks) ≡ false) × (count ≡ tickCount (ticked ticks) 0 4096)
+              counted = told-ticked (T .states) kind (mayBlock kind (T .owners) (T .helpers) sender) (ticked ticks) count (sym e ∙ h)
+
+              pub count-within : count ≤ 4096
+              count-within = omega (arith, counted .2, tally-most (ticked ticks) 0 4096)
+
+              pub out-room : length buffer < 9 * count → leaving (refused 13 0) buffer ≡ plannedOf T ticks sender kind buffer
               unfolding plannedOf plannedIn
-              out-stuck h = rw (eq-eqb _ _ p, eq-eqb _ _ q, eq-eqb _ _ x, eq-eqb _ _ r, le-ltb _ _ k, g, h)
+              out-room u =
+                  let w : length buffer < 9 * tickCount (ticked ticks) 0 4096 = omega (arith, counted .2) in
+                  rw (eq-eqb _ _ p, eq-eqb _ _ q, eq-eqb _ _ x, eq-eqb _ _ r, le-ltb _ _ k, counted .0, counted .1, lt-ltb _ _ w)
 
-              module _ (u : isStuck kind (mayBlock kind (T .owners) (T .helpers) sender) (ticked ticks) ≡ false) where
-                pub out-room : length buffer < 9 * tickCount (ticked ticks) 0 4096 → leaving (refused 13 0) buffer ≡ plannedOf T ticks sender kind buffer
-                unfolding plannedOf plannedIn
-                out-room h = rw (eq-eqb _ _ p, eq-eqb _ _ q, eq-eqb _ _ x, eq-eqb _ _ r, le-ltb _ _ k, g, u, lt-ltb _ _ h)
+              module _ (u : 9 * count ≤ length buffer) where
+                pub ready : PlanReady (T .owners) (T .helpers) ticks sender kind (length buffer)
+                ready = record {
+                  owners-sized = q;
+                  helpers-sized = x;
+                  ticks-sized = r;
+                  kinds = k;
+                  unstuck = counted .1;
+                  room-for = omega (arith, counted .2);
+                }
 
-                pub out-plan : 9 * tickCount (ticked ticks) 0 4096 ≤ length buffer → (n : ℕ) (left : List ℕ) → left ≡ sets buffer 0 (planFor (T .owners) (T .helpers) ticks sender kind) → n ≡ length (planFor (T .owners) (T .helpers) ticks sender kind) → leaving (accepted n) left ≡ plannedOf T ticks sender kind buffer
+                pub out-plan : (n : ℕ) (left : List ℕ) → left ≡ sets buffer 0 (planFor (T .owners) (T .helpers) ticks sender kind) → n ≡ length (planFor (T .owners) (T .helpers) ticks sender kind) → leaving (accepted n) left ≡ plannedOf T ticks sender kind buffer
                 unfolding plannedOf plannedIn
-                out-plan h n left e f =
-                    let w = whole-fits (T .owners) (T .helpers) ticks sender kind buffer (record { owners-sized = q; helpers-sized = x; ticks-sized = r; kinds = k; unstuck = u; room-for = h }) in
-                    let s = e ∙ sets-filled (planFor (T .owners) (T .helpers) ticks sender kind) buffer w in
-                    rw (eq-eqb _ _ p, eq-eqb _ _ q, eq-eqb _ _ x, eq-eqb _ _ r, le-ltb _ _ k, g, u, le-ltb _ _ h) (λ i. leaving (accepted (f i)) (s i))
+                out-plan n left w f =
+                    let z = w ∙ sets-filled (planFor (T .owners) (T .helpers) ticks sender kind) buffer (whole-fits (T .owners) (T .helpers) ticks sender kind buffer ready) in
+                    rw (eq-eqb _ _ p, eq-eqb _ _ q, eq-eqb _ _ x, eq-eqb _ _ r, le-ltb _ _ k, counted .0, counted .1, le-ltb _ _ (ready .room-for)) (λ i. leaving (accepted (f i)) (z i))

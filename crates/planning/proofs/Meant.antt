@@ -13,7 +13,7 @@ use Rattle.octets.specs.Choice.{if_then_else_}
 use Rattle.octets.specs.Answer.{accepted}
 use Rattle.octets.proofs.Choice.{true-false}
 use Rattle.asks.specs.Asks.{width, askOf, markOf}
-use Rattle.hub.specs.Names.{Named}
+use Rattle.rights.specs.Names.{Named}
 use Rattle.plans.specs.Plans.{planned, fitsKind, marksOf, Step, Plannable}
 use Rattle.planning.specs.Planner.{ones, cgb, cgbAsk, cgbStep, bloStep, paired, stepFor}
 use Rattle.plans.proofs.Seen.{marks-in, marks-out}

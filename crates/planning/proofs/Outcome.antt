@@ -22,11 +22,11 @@ use Rattle.octets.specs.declared.Written.{Written}
 use Rattle.octets.proofs.Told.{written-told-injective}
 use Rattle.rows.specs.Rows.{isLegal}
 use Rattle.rows.proofs.Legality.{legal-is, is-legal}
-use Rattle.hub.specs.Tables.{Tables, sized}
-use Rattle.hub.specs.Rights.{firstIllegal, isFound}
+use Rattle.rights.specs.Tables.{Tables, sized}
+use Rattle.rights.specs.Rights.{firstIllegal, isFound}
 use Rattle.hub.specs.Acts.{judgedOf}
-use Rattle.hub.specs.Faults.{WrongTables}
-use Rattle.hub.proofs.Meaning.{found-none, found-some}
+use Rattle.rights.specs.Faults.{WrongTables}
+use Rattle.rights.proofs.Meaning.{found-none, found-some}
 use Rattle.plans.specs.Plans.{ticked, JudgedPlan, Grants, Plannable}
 use Rattle.surveys.specs.Surveys.{tickCount, isStuck}
 use Rattle.plans.specs.Turns.{AllLegal, mayBlock, GoodPlan, checkAt}

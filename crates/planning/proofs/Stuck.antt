@@ -14,9 +14,9 @@ use Rattle.octets.specs.Answer.{Answer}
 use Rattle.octets.proofs.Choice.{chosen, decided, true-false}
 use Rattle.layout.specs.Container.{bit}
 use Rattle.asks.specs.declared.Ask.{Ask}
-use Rattle.hub.specs.Names.{Named}
+use Rattle.rights.specs.Names.{Named}
 use Rattle.hub.proofs.Called.{named-or}
-use Rattle.hub.proofs.Meaning.{found-some, found-none}
+use Rattle.rights.proofs.Meaning.{found-some, found-none}
 use Rattle.plans.specs.Frames.{Each}
 use Rattle.plans.specs.Plans.{ticked, marksOf, Step, times, JudgedStep, JudgedPlan, Grants, Plannable}
 use Rattle.surveys.specs.Surveys.{canPlan, isStuck}

@@ -7,10 +7,10 @@ use mathlib.Core.Logic.{_⊎_, inl, inr, ⊎-elim, _↔_}
 use native.Mathlib.Omega.{arith}
 use lib.ListN.{length}
 use Rattle.octets.proofs.Choice.{decided}
-use Rattle.hub.specs.Tables.{Tables}
-use Rattle.hub.specs.Rights.{isMine, hasRight}
-use Rattle.hub.specs.Names.{Mine, HasRight}
-use Rattle.hub.proofs.Meaning.{mine-is, not-mine, right-is, not-right}
+use Rattle.rights.specs.Tables.{Tables}
+use Rattle.rights.specs.Rights.{isMine, hasRight}
+use Rattle.rights.specs.Names.{Mine, HasRight}
+use Rattle.rights.proofs.Meaning.{mine-is, not-mine, right-is, not-right}
 use Rattle.plans.specs.Plans.{ticked}
 use Rattle.plans.specs.Turns.{AllLegal, mayBlock}
 use Rattle.planning.specs.Outcome.{NoPlan}

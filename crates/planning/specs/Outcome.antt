@@ -12,9 +12,9 @@ use Rattle.octets.specs.Answer.{Answer, accepted, refused}
 use Rattle.octets.specs.Filled.{Done, done}
 use Rattle.octets.specs.Faults.{Fault, fault}
 use Rattle.rows.specs.Rows.{Legal}
-use Rattle.hub.specs.Tables.{Tables, sized}
-use Rattle.hub.specs.Rights.{firstIllegal, isFound}
-use Rattle.hub.specs.Faults.{WrongTables}
+use Rattle.rights.specs.Tables.{Tables, sized}
+use Rattle.rights.specs.Rights.{firstIllegal, isFound}
+use Rattle.rights.specs.Faults.{WrongTables}
 use Rattle.plans.specs.Plans.{ticked}
 use Rattle.plans.specs.Turns.{mayBlock, GoodPlan}
 use Rattle.surveys.specs.Surveys.{tickCount, isStuck}

@@ -20,13 +20,15 @@ use Rattle.asks.specs.Asks.{askOf, askIn, broken, indicatorIn, rangeIn, width}
 use Rattle.asks.proofs.Reading.{ask-read, asked-is, ask-last, whole-group, contents-in}
 use Rattle.isup.proofs.Exactly.{read-exactly}
 use Rattle.replies.specs.Replies.{replyLength}
-use Rattle.hub.specs.Tables.{Tables}
-use Rattle.hub.specs.Rights.{isMine, hasRight, mayHelp, firstForeign, firstUnowned, firstIllegal, isFound}
-use Rattle.hub.specs.Acts.{isTaken, isUnhelpable, judgedOf}
-use Rattle.hub.specs.Names.{Named}
-use Rattle.hub.proofs.Given.{fair, permit-all}
+use Rattle.rights.specs.Tables.{Tables}
+use Rattle.rights.specs.Rights.{isMine, hasRight, mayHelp, firstForeign, firstUnowned, firstIllegal, isFound}
+use Rattle.rights.specs.Permits.{isTaken, isUnhelpable}
+use Rattle.hub.specs.Acts.{judgedOf}
+use Rattle.rights.specs.Names.{Named}
+use Rattle.hub.proofs.Given.{fair}
+use Rattle.rights.proofs.Given.{permit-all}
 use Rattle.hub.proofs.Called.{act-of}
-use Rattle.hub.proofs.Meaning.{found-none, none-found}
+use Rattle.rights.proofs.Meaning.{found-none, none-found}
 use Rattle.plans.specs.Plans.{planned, fitsKind, Grants}
 use Rattle.plans.specs.Turns.{AllLegal, mayBlock}
 

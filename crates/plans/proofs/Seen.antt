@@ -18,7 +18,7 @@ use Rattle.octets.proofs.Choice.{chosen}
 use Rattle.layout.specs.Container.{bit}
 use Rattle.asks.specs.declared.Ask.{Ask}
 use Rattle.asks.specs.Asks.{markOf}
-use Rattle.hub.specs.Names.{Named}
+use Rattle.rights.specs.Names.{Named}
 use Rattle.hub.proofs.Called.{named-or}
 use Rattle.plans.specs.Plans.{fitsKind, marksOf}
 use Rattle.plans.specs.Check.{seeing, taking}

@@ -15,7 +15,7 @@ use Rattle.asks.specs.declared.Ask.{Ask}
 use Rattle.asks.specs.Asks.{markOf}
 use Rattle.plans.specs.Plans.{ticked, fitsKind}
 use Rattle.plans.specs.Check.{seeing, taking, told, hearing, walk, agree, agreeing, checkOf}
-use Rattle.hub.specs.Tables.{Tables}
+use Rattle.rights.specs.Tables.{Tables}
 use Rattle.hub.specs.Acts.{judgedOf}
 use Rattle.plans.specs.Turns.{checkAt}
 

@@ -16,12 +16,13 @@ use Rattle.octets.proofs.Choice.{true-false}
 use Rattle.asks.specs.declared.Ask.{Ask}
 use Rattle.rows.specs.Rows.{isLegal}
 use Rattle.rows.proofs.Legality.{legal-is, is-legal}
-use Rattle.hub.specs.Tables.{Tables, tables, sized}
-use Rattle.hub.specs.Rights.{isFound}
+use Rattle.rights.specs.Tables.{Tables, tables, sized}
+use Rattle.rights.specs.Rights.{isFound}
 use Rattle.hub.specs.Replies.{replyOf}
-use Rattle.hub.specs.Acts.{isUnhelpable, roomed, judgedOf, grantOf, carriedOut, actOf}
+use Rattle.rights.specs.Permits.{isUnhelpable}
+use Rattle.hub.specs.Acts.{roomed, judgedOf, grantOf, carriedOut, actOf}
 use Rattle.hub.proofs.Given.{fair, grant-judged}
-use Rattle.hub.proofs.Meaning.{found-none, search-same}
+use Rattle.rights.proofs.Meaning.{found-none, search-same}
 use Rattle.hub.proofs.Writing.{length-reply}
 use Rattle.hub.proofs.Called.{row-outside, length-rows, named-or, call-accepted}
 use Rattle.hub.proofs.Legality.{legal-stays}

@@ -15,7 +15,7 @@ use Rattle.layout.specs.Container.{partsOf}
 use Rattle.isup.specs.Read.{readOf}
 use Rattle.asks.specs.declared.Ask.{Ask}
 use Rattle.asks.specs.Asks.{askOf}
-use Rattle.hub.specs.Tables.{Tables}
+use Rattle.rights.specs.Tables.{Tables}
 use Rattle.plans.specs.Frames.{framed, Each}
 use Rattle.plans.specs.Plans.{Step, times, messages}
 use Rattle.plans.specs.Turns.{tablesAfter, InTurn, GoodPlan, checkAt}

@@ -12,8 +12,8 @@ use Rattle.octets.specs.Answer.{accepted}
 use Rattle.layout.specs.Container.{bit}
 use Rattle.rows.specs.Rows.{isLegal}
 use Rattle.asks.specs.Asks.{askOf}
-use Rattle.hub.specs.Tables.{Tables, tables, sized}
-use Rattle.hub.specs.Rights.{isMine, hasRight}
+use Rattle.rights.specs.Tables.{Tables, tables, sized}
+use Rattle.rights.specs.Rights.{isMine, hasRight}
 use Rattle.hub.specs.Acts.{judgedOf, actOf}
 use Rattle.plans.specs.Frames.{framed}
 use Rattle.plans.specs.Plans.{ticked, fitsKind, Step, times, messages}

@@ -3,10 +3,10 @@ use Prim.Native.Nat.{ℕ}
 use mathlib.Core.Path.{_≡_}
 use mathlib.Core.List.{List}
 use Rattle.octets.proofs.Answer.{one-answer}
-use Rattle.layout.specs.declared.Parts.{Parts}
+use Rattle.parts.specs.declared.Parts.{Parts}
 use Rattle.layout.specs.declared.Row.{Row}
-use Rattle.layout.specs.declared.Span.{Span}
-use Rattle.layout.specs.Spans.{partOf}
+use Rattle.parts.specs.declared.Span.{Span}
+use Rattle.parts.specs.Spans.{partOf}
 use Rattle.isup.specs.Table.{shapeOf}
 use Rattle.isup.specs.Read.{readOf}
 use Rattle.printing.specs.Sheet.{sheet, pour}

@@ -3,10 +3,10 @@ use Prim.Native.Nat.{ℕ}
 use mathlib.Core.Bool.{Bool, true, false}
 use mathlib.Core.List.{List, [], _∷_, _++_}
 use Rattle.octets.specs.Answer.{Answer, accepted, refused}
-use Rattle.layout.specs.declared.Parts.{Parts}
+use Rattle.parts.specs.declared.Parts.{Parts}
 use Rattle.layout.specs.declared.Row.{Row}
 use Rattle.layout.specs.declared.Row.the-variants.{Has, Unknown}
-use Rattle.layout.specs.Spans.{partOf}
+use Rattle.parts.specs.Spans.{partOf}
 use Rattle.isup.specs.declared.Message.{Message}
 use Rattle.words.specs.Said.{said}
 use Rattle.lines.specs.Lines.{counted, shown, refusal, faultLine}

@@ -58,7 +58,7 @@ fn run(owners: &mut [u8], states: &mut [u8], chunk: &mut [u8], out: &mut [u8]) {
     let mut buffer = [0u8; 268];
     let mut accepted = [0u16; 256];
     let mut refused = [0u16; 256];
-    let start = day::begin(owners, states, &mut accepted, &mut refused);
+    let start = opening::begin(owners, states, &mut accepted, &mut refused);
     let end = read_all(
         start,
         chunk,

@@ -19,13 +19,15 @@ use Rattle.words.specs.Words.{wordLength, wordEnd, same, numberOf, octetOf, are
 use Rattle.words.specs.Into.{Entry, entry}
 use Rattle.words.proofs.Bounds.{word-within}
 use Rattle.words.proofs.Into.{octets-few, into-keeps, octets-into, none-into}
-use Rattle.requests.specs.declared.Field.{Field}
-use Rattle.requests.specs.Kinds.{Kind, aNumber, aLast, anOctet, someOctets, aWord, notBelow, FieldSays, fieldSays, unsaid, Found, found, lost, numberSays, meaning, leading, orElse}
-use Rattle.requests.specs.Table.{Form, forms, kindOf, kindsOf}
+use Rattle.fields.specs.declared.Field.{Field}
+use Rattle.fields.specs.Kinds.{Kind, aNumber, aLast, anOctet, someOctets, aWord, notBelow, FieldSays, fieldSays, unsaid, Found, found, lost, numberSays, meaning, leading, orElse}
+use Rattle.fields.specs.Letters.{kindOf}
+use Rattle.fields.specs.Placed.{field, noField, entered, placed}
+use Rattle.fields.proofs.Typed.{word-long, word-into, word-keeps}
+use Rattle.forms.specs.Table.{Form, forms, kindsOf}
 use Rattle.requests.specs.Words.{lettered, wordsOf, wordsSay, asks, nothing, asking, askedBy, askedByTable, askedOf}
-use Rattle.requests.specs.Along.{field, noField, wordAt, entered, placed, Along, heading, fieldsOf, request, bad, taken, tried, firstForm, requestOf, saidAt, saidIn, saysOf}
+use Rattle.requests.specs.Along.{wordAt, Along, heading, fieldsOf, request, bad, taken, tried, firstForm, requestOf, saidAt, saidIn, saysOf}
 use Rattle.requests.proofs.Steps.{fields-ended, fields-left, field-missing, field-broken, field-there}
-use Rattle.requests.proofs.Typed.{word-long, word-into, word-keeps}
 
 -- the words left after the word that ends at octet `at`
 abbrev restAt : List ℕ → ℕ → List (List ℕ)

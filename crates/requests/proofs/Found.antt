@@ -7,14 +7,15 @@ use native.Mathlib.Omega.{arith}
 use borrow.Author.Tests.{lt-ltb, le-ltb, eq-eqb, ne-eqb}
 use lib.ListN.{length, take}
 use Rattle.words.specs.Words.{wordEnd}
-use Rattle.requests.specs.declared.Field.{Field}
-use Rattle.requests.specs.declared.Row.{Row}
+use Rattle.fields.specs.declared.Field.{Field}
+use Rattle.fields.specs.Kinds.{Found, found, lost, orElse}
+use Rattle.forms.specs.declared.Row.{Row}
+use Rattle.forms.specs.Table.{forms}
+use Rattle.forms.specs.Inside.{letterOf, lettersAll, digitsOf, keyOf, kindsIn, rowIn}
+use Rattle.forms.proofs.Keys.{row-small}
 use Rattle.requests.specs.declared.Request.{Request}
-use Rattle.requests.specs.Kinds.{Found, found, lost, orElse}
-use Rattle.requests.specs.Table.{forms}
 use Rattle.requests.specs.Along.{fieldsOf, request, bad, Asking, taken, takenBy, tried, firstForm, requestOf}
-use Rattle.requests.specs.Inside.{letterOf, lettersAll, digitsOf, keyOf, kindsIn, rowIn}
-use Rattle.requests.proofs.Keys.{keyed, paired, byLonger, byRow, tried-same, tried-bad, row-first, row-small}
+use Rattle.requests.proofs.ByRow.{keyed, paired, byLonger, byRow, tried-same, tried-bad, row-first}
 
 -- each word of the table has a key: this computes
 rows-keyed : keyed forms ≡ true
@@ -49,9 +50,9 @@ tried-next : (which : ℕ) (x : Found (List Field)) (left : List ℕ) (rest : Li
 tried-next which (found fs) left rest q now w e n = absurd (w (sym (ap (λ (t : Asking). t .request .which) e) ∙ n))
 tried-next which lost left rest q now w e n = ap rest (ap (λ (t : Asking). t .left) e)
 
-module _ (line scratch : List ℕ) (end key : ℕ) (r : Row) (h : length line ≤ 81920) (e : end ≡ wordEnd line 0) (k : key ≡ keyOf (take end line)) (q : r ≡ rowIn forms 0 key) where
+module _ (line scratch : List ℕ) (end : ℕ) (r : Row) (h : length line ≤ 81920) (e : end ≡ wordEnd line 0) (q : r ≡ rowIn forms 0 (keyOf (take end line))) where
   by-row : byRow line end scratch r ≡ requestOf line scratch
-  by-row = ap (λ (x : Row). byRow line end scratch x) (q ∙ ap (λ (x : ℕ). rowIn forms 0 x) k) ∙ row-first line end scratch forms 0 rows-keyed rows-paired (omega arith) ∙ ap (λ (x : ℕ). firstForm forms 0 line x scratch) e ∙ asked-by line scratch h
+  by-row = ap (λ (x : Row). byRow line end scratch x) q ∙ row-first line end scratch forms 0 rows-keyed rows-paired (omega arith) ∙ ap (λ (x : ℕ). firstForm forms 0 line x scratch) e ∙ asked-by line scratch h
 
   -- no row has the word
   pub found-none : r .which ≡ 255 → taken bad scratch ≡ requestOf line scratch

@@ -1,6 +1,5 @@
 pub mod Steps
-pub mod Typed
-pub mod Keys
+pub mod ByRow
 pub mod Found
 pub mod Agree
 pub mod Sound

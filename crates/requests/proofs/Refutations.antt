@@ -4,9 +4,9 @@ use mathlib.Core.List.{[], _∷_}
 use Rattle.words.specs.Said.{said}
 use Rattle.words.specs.Digits.{valueOf}
 use Rattle.words.specs.Words.{same, digitsFrom, numberOf, allDigits, octetOf, areOctets, pairsOf, octetsOf}
-use Rattle.requests.specs.Kinds.{fieldSays}
-use Rattle.requests.specs.Table.{mostOf, kindOf}
-use Rattle.requests.specs.Rows.{FIND, DIAL, ROWS, VELOCITY-LONG, TOTALS, PLAN}
+use Rattle.fields.specs.Kinds.{fieldSays}
+use Rattle.fields.specs.Letters.{mostOf, kindOf}
+use Rattle.forms.specs.Rows.{FIND, DIAL, ROWS, VELOCITY-LONG, TOTALS, PLAN}
 use Rattle.requests.specs.Words.{lettered, wordsOf, wordsSay, asking, nothing, askedBy, askedByTable, askedOf}
 
 -- a sender of 256, which a circuit may be

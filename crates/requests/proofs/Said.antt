@@ -4,10 +4,11 @@ use mathlib.Core.Path.{_≡_, ap}
 use mathlib.Core.List.{List}
 use lib.ListN.{getD, List·getD-map}
 use Rattle.octets.specs.Octet.{octets}
-use Rattle.requests.specs.declared.Field.{Field}
-use Rattle.requests.specs.Kinds.{FieldSays}
+use Rattle.fields.specs.declared.Field.{Field}
+use Rattle.fields.specs.Kinds.{FieldSays}
+use Rattle.fields.specs.Placed.{noField}
 use Rattle.requests.specs.Words.{numberAt, octetsAt}
-use Rattle.requests.specs.Along.{noField, saidAt, saidIn}
+use Rattle.requests.specs.Along.{saidAt, saidIn}
 
 module _ (s : List ℕ) (fs : List Field) (i : ℕ) where
   -- its number

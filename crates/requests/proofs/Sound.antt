@@ -15,9 +15,10 @@ use Rattle.words.specs.declared.Number.the-variants.{Is, Not}
 use Rattle.words.specs.Words.{same, numberOf, octetOf, areOctets}
 use Rattle.words.proofs.Bounds.{number-most, octet-most}
 use Rattle.words.proofs.Into.{octets-most}
-use Rattle.requests.specs.Kinds.{Kind, aNumber, aLast, anOctet, someOctets, aWord, FieldSays, unsaid, Found, found, lost, notBelow, numberSays, meaning, leading, onward, orElse}
-use Rattle.requests.specs.Table.{Form, forms, kindsOf, kindsAt, kindOf, mostOf, letter, octetsMost, planMost, circuitMost}
-use Rattle.requests.specs.Rows.{CHECK}
+use Rattle.fields.specs.Kinds.{Kind, aNumber, aLast, anOctet, someOctets, aWord, FieldSays, unsaid, Found, found, lost, notBelow, numberSays, meaning, leading, onward, orElse}
+use Rattle.fields.specs.Letters.{kindOf, mostOf, letter, octetsMost, planMost, circuitMost}
+use Rattle.forms.specs.Table.{Form, forms, kindsOf, kindsAt}
+use Rattle.forms.specs.Rows.{CHECK}
 use Rattle.requests.specs.Words.{wordsOf, wordsSay, Asked, asks, nothing, asking, askedBy, askedByTable, askedOf, octetsAt, Keeps, Kept, SoundRequest}
 
 is-not : {v : ℕ} → Not ≡ Is v → ⊥

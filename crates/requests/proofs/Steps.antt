@@ -9,11 +9,12 @@ use lib.Seq.{set-at}
 use Rattle.words.specs.declared.Number.the-variants.{Is, Not}
 use Rattle.words.specs.Words.{wordEnd}
 use Rattle.words.specs.Into.{entry}
-use Rattle.requests.specs.declared.Field.{Field}
-use Rattle.requests.specs.Kinds.{Kind, Found, found, lost, leading}
-use Rattle.requests.specs.Table.{kindOf}
-use Rattle.requests.specs.Along.{noField, between, entered, placed, Along, along, heading, fieldsOf, request, bad, Asking, taken, takenBy}
-use Rattle.requests.specs.Inside.{kindsIn}
+use Rattle.fields.specs.declared.Field.{Field}
+use Rattle.fields.specs.Kinds.{Kind, Found, found, lost, leading}
+use Rattle.fields.specs.Letters.{kindOf}
+use Rattle.fields.specs.Placed.{noField, entered, placed}
+use Rattle.forms.specs.Inside.{kindsIn}
+use Rattle.requests.specs.Along.{between, Along, along, heading, fieldsOf, request, bad, Asking, taken, takenBy}
 
 -- fields that were read, and then the rest
 abbrev past : List Field → Found (List Field) → Found (List Field)

@@ -6,8 +6,17 @@ use lib.Dec.{ltb, eqb}
 use lib.ListN.{length, getD, replicate}
 use Rattle.octets.specs.Choice.{if_then_else_}
 use Rattle.words.specs.Words.{same}
-use Rattle.requests.specs.Kinds.{Kind, aNumber, aLast, anOctet, someOctets, aWord, typedMost, FieldSays, unsaid, meaning, Found, found, lost, leading, onward, orElse}
-use Rattle.requests.specs.Table.{Form, forms, kindsOf, kindsAt, lineMost, fieldsMost, octetMost}
+use Rattle.fields.specs.Kinds.{Kind, aNumber, aLast, anOctet, someOctets, aWord, typedMost, FieldSays, unsaid, meaning, Found, found, lost, leading, onward, orElse}
+use Rattle.fields.specs.Letters.{octetMost}
+use Rattle.forms.specs.Table.{Form, forms, kindsOf, kindsAt}
+
+-- the octets of a line, at the most
+abbrev pub lineMost : ℕ
+lineMost = 81920
+
+-- the fields of a request, at the most
+abbrev pub fieldsMost : ℕ
+fieldsMost = 8
 
 -- one octet more at the front of the first word
 unfoldable pub lettered : ℕ → List (List ℕ) → List (List ℕ)

@@ -25,13 +25,14 @@ use Rattle.sccp.specs.Faults.{sccpFaults, sccpWriteFaults}
 use Rattle.sccp.proofs.Exactly.{read-exactly}
 use Rattle.sccp.proofs.Judged.{read-judges, write-judges}
 use Rattle.sccp.proofs.Places.{read-places-within, write-placeless}
-use Rattle.llachurep.specs.Boundary.{given, givenBy}
-use Rattle.llachurep.specs.Refuses.{Refuses}
+use Rattle.telling.specs.Telling.{In16Bits}
+use Rattle.boundary.specs.Boundary.{given, givenBy}
+use Rattle.boundary.specs.Refuses.{Refuses}
 use Rattle.roaming.specs.Roaming.{SmallSccp, sccpValuesOf, sccpReadGives, sccpReadGivesFaults}
-use Rattle.llachurep.proofs.Small.{whole-done, roomy}
-use Rattle.llachurep.proofs.Places.{room-placeless}
-use Rattle.llachurep.proofs.Numbers.{AtLeastOne, FromOne, message-from-one, shape-from-one}
-use Rattle.llachurep.proofs.Refused.{by-32-wide}
+use Rattle.boundary.proofs.Small.{whole-done, roomy}
+use Rattle.boundary.proofs.Places.{room-placeless}
+use Rattle.boundary.proofs.Numbers.{AtLeastOne, FromOne, message-from-one, shape-from-one}
+use Rattle.boundary.proofs.Refused.{by-32-wide}
 
 -- ---- each way in which reading ends
 module _ (m parts : List ℕ) where
@@ -49,6 +50,10 @@ module _ (m parts : List ℕ) where
     sccp-given h = rw (e, le-ltb _ _ h) refl
 
 -- ---- everything fits
+-- room for eleven has each of the eleven places
+pub eleven-places : (n : ℕ) → 11 ≤ n → (0 < n) × (1 < n) × (2 < n) × (3 < n) × (4 < n) × (5 < n) × (6 < n) × (7 < n) × (8 < n) × (9 < n) × (10 < n)
+eleven-places n h = (omega arith, omega arith, omega arith, omega arith, omega arith, omega arith, omega arith, omega arith, omega arith, omega arith, omega arith)
+
 -- the parts of a message that reads end within 16 bits
 pub sccp-parts-small : (m : List ℕ) (x : Message) → sccpReadOf m ≡ accepted x → SmallSccp x
 sccp-parts-small m x e =
@@ -71,6 +76,10 @@ unfolding sccpWriteOf sccpWriteIn
 sccp-write-small kind fixed first second third run buffer n e =
     let r = roomy buffer (sccpWriteIn kind fixed first second third run) e in
     family.written-small sccp (sccpOrderOf kind fixed first second third run) n (r .0) (r .1)
+
+-- so its answer goes into 16 bits
+pub sccp-write-fits : (kind : ℕ) (fixed first second third run buffer : List ℕ) → In16Bits (sccpWriteOf kind fixed first second third run buffer .answer)
+sccp-write-fits kind fixed first second third run buffer = (λ n q. omega (arith, sccp-write-small kind fixed first second third run buffer n q), λ n at q. omega (arith, write-placeless kind fixed first second third run buffer n at q))
 
 -- a refusal is about octet 268 at the most
 pub sccp-read-place : (m parts : List ℕ) (n at : ℕ) → sccpReadGives m parts .answer ≡ refused n at → at ≤ 268

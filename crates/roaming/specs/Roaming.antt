@@ -5,11 +5,11 @@ use lib.ListN.{length}
 use Rattle.octets.specs.Answer.{_then_}
 use Rattle.octets.specs.Faults.{Fault, fault}
 use Rattle.octets.specs.Filled.{Done, done, roomFor}
-use Rattle.layout.specs.Spans.{spanSize}
+use Rattle.parts.specs.Spans.{spanSize}
 use Rattle.sccp.specs.declared.Message.{Message}
 use Rattle.sccp.specs.Read.{sccpReadOf}
 use Rattle.sccp.specs.Faults.{sccpFaults}
-use Rattle.llachurep.specs.Boundary.{fixedStart, InSixteenBits, SmallParts}
+use Rattle.boundary.specs.Boundary.{fixedStart, InSixteenBits, SmallParts}
 
 -- type, then start and length of the fixed part, of the first, the second and the third contents, and of the optional run
 abbrev pub sccpValuesOf : Message → List ℕ

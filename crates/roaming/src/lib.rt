@@ -1,27 +1,16 @@
-// SCCP for C and Rust: reading and writing. With `llachurep`, `families` and `calls` they are one library.
+// SCCP for C and Rust: reading and writing. With `llachurep` and its like they are one library.
 // They are a crate of their own so that its object has one reader and one writer of parts, which the compiler puts where they are called.
 ghost use mathlib.Core.Path.{_≡_};
-ghost use Prim.Native.Nat.{ℕ, _+_, _*_, _≤_};
+ghost use Prim.Native.Nat.{_≤_};
 ghost use lib.ListN.{length};
-ghost use Rattle.octets.specs.Answer.{accepted, refused};
 ghost use Rattle.octets.specs.Filled.{filled};
-ghost use Rattle.octets.specs.Told.{writtenTold};
-ghost use Rattle.layout.specs.Spans.{spanSize};
+ghost use Rattle.parts.specs.Spans.{spanSize};
 ghost use Rattle.sccp.specs.Write.{sccpWriteOf};
-ghost use Rattle.llachurep.specs.Boundary.{packed, given, givenBy, fixedStart};
+ghost use Rattle.boundary.specs.Boundary.{given, givenBy, fixedStart};
 ghost use Rattle.roaming.specs.Roaming.{SmallSccp, sccpValuesOf, sccpReadGives};
-use layout::Span;
-use octets::Written;
+use parts::Span;
 use sccp::Message;
 use sccp::Reading;
-
-// A refusal's number and the octet that it is about, as an answer.
-fn refusal(number: u8, place: usize) -> u32
-    requires { ⌜ place ≤ 65535 ⌝ }
-    ensures { λ r. ⌜ r ≡ 65536 * number + place ⌝ }
-{
-    65536 * number as u32 + place as u32
-}
 
 // How many octets a span has.
 fn size_of(span: Span) -> u16
@@ -70,26 +59,15 @@ fn put_sccp_values(x: Message, parts: &mut [u16])
 pub extern "C" fn llachurep_sccp_read(message: &[u8], parts: &mut [u16]) -> u32
     ensures { λ r. ⌜ given r (now (parts .exit)) ≡ givenBy (sccpReadGives (now (message .entry)) (now (parts .entry))) ⌝ }
 {
-    match sccp::read(message) {
-        Reading::Refused(n, at) => refusal(n, at),
+    match sccp_codec::read(message) {
+        Reading::Refused(n, at) => telling::refusal(n, at),
         Reading::Read(x) => {
             if parts.len() < 11 {
-                return refusal(13, 0);
+                return telling::refusal(13, 0);
             }
             put_sccp_values(x, parts);
             11
         }
-    }
-}
-
-// What all that fill a lent buffer answer, as one number.
-fn written(answer: Written) -> u32
-    requires { ⌜ ((n : ℕ) → writtenTold answer ≡ accepted n → n ≤ 65535) × ((n at : ℕ) → writtenTold answer ≡ refused n at → at ≤ 65535) ⌝ }
-    ensures { λ r. ⌜ r ≡ packed (writtenTold answer) ⌝ }
-{
-    match answer {
-        Written::Octets(n) => n as u32,
-        Written::Refused(n, at) => refusal(n, at),
     }
 }
 
@@ -106,5 +84,5 @@ pub extern "C" fn llachurep_sccp_write(
 ) -> u32
     ensures { λ r. ⌜ given r (now (out .exit)) ≡ givenBy (sccpWriteOf kind (now (fixed .entry)) (now (first .entry)) (now (second .entry)) (now (third .entry)) (now (optional .entry)) (now (out .entry))) ⌝ }
 {
-    written(sccp::write(kind, fixed, first, second, third, optional, out))
+    telling::written(sccp_codec::write(kind, fixed, first, second, third, optional, out))
 }

@@ -1,7 +1,8 @@
 -- The samples hold: one theorem over each list, by the definitions that the code is proved to meet.
 use mathlib.Core.Path.{refl}
 use Rattle.runs.specs.Run.{stepAt, stops, stopFrom, isRun}
-use Rattle.layout.specs.Container.{runFrom, variableAt, optionalAt, variableSlot, optionalSlot, sharesOf, judged, held, containerOf, partsOf}
+use Rattle.layout.specs.Container.{runFrom, variableAt, optionalAt, variableSlot, optionalSlot, containerOf, partsOf}
+use Rattle.parts.specs.Overlap.{sharesOf, judged, held}
 use Rattle.writing.specs.Write.{pointers, ahead, variables, runPointer, closedRun, formOf, marks, exceeds, writtenOf}
 use Rattle.measuring.specs.Measure.{unfitOf}
 use Rattle.isup.specs.Table.{shapeOf}
@@ -15,9 +16,10 @@ use Rattle.asks.specs.Types.{actFor}
 use Rattle.octets.specs.Sum.{total}
 use Rattle.marks.specs.Marks.{marksIn, statusOctet, bitsIn, lockedBits}
 use Rattle.asks.specs.Asks.{brokenRange, brokenGroup, askedIn, askOf, bitAt, markOf}
-use Rattle.hub.specs.Rights.{firstNot, mayHelp}
+use Rattle.rights.specs.Rights.{firstNot, mayHelp}
 use Rattle.hub.specs.Replies.{statusIn, replyOf}
-use Rattle.hub.specs.Acts.{isUnhelpable, permittedOf, allowedOf, grantOf, actOf}
+use Rattle.rights.specs.Permits.{isUnhelpable, permittedOf}
+use Rattle.hub.specs.Acts.{allowedOf, grantOf, actOf}
 use Rattle.samples.specs.Samples.{paperRows, AllHold, ours, OursHold}
 
 -- the paper's twelve

@@ -9,12 +9,12 @@ use Rattle.octets.specs.Answer.{Answer, accepted, refused, _then_}
 use Rattle.runs.specs.declared.Step.{Step}
 use Rattle.runs.specs.declared.Step.the-variants.{Param, Close, End, Pass}
 use Rattle.runs.specs.Run.{stepAt}
-use Rattle.layout.specs.Spans.{partOf}
+use Rattle.parts.specs.Spans.{partOf}
 use Rattle.isup.specs.Read.{readOf}
 use Rattle.isup.specs.Write.{compactIn}
 use Rattle.number.specs.Read.{numberIn}
 use Rattle.asks.specs.Asks.{askOf}
-use Rattle.hub.specs.Tables.{tables}
+use Rattle.rights.specs.Tables.{tables}
 use Rattle.hub.specs.Acts.{After, actOf}
 
 -- what is asked of a message: what the hub makes of it, its called number, its compact form, its optional parameters

@@ -66,7 +66,7 @@ fn put_shown(word: &[u8], octets: &[u8], line: &mut [u8], at: usize) -> usize {
 
 // Puts the circuits that a message names and their rows, and answers the next place.
 fn put_rows(message: &[u8], states: &[u8], line: &mut [u8], at: usize) -> usize {
-    match asks::decode(message) {
+    match asking::decode(message) {
         Verdict::Refused(n, place) => put_fault(n, place, line, at),
         Verdict::Granted(ask) => {
             let first = printing::put_text(b" first circuit ", line, at);
@@ -100,7 +100,7 @@ fn put_acted(
     at: usize,
 ) -> usize {
     fill(states, 0);
-    match hub::act(states, owners, helpers, 1, message, answer) {
+    match acting::act(states, owners, helpers, 1, message, answer) {
         Written::Refused(n, place) => put_fault(n, place, line, at),
         Written::Octets(n) => {
             let next = put_shown(b" answer ", front(answer, n), line, at);
@@ -111,7 +111,7 @@ fn put_acted(
 
 // Puts the signals of a called number, and answers the next place.
 fn put_signals(contents: &[u8], signals: &mut [u8], line: &mut [u8], at: usize) -> usize {
-    match number::read_number(contents, signals) {
+    match signals::read_number(contents, signals) {
         NumberRead::Refused(n) => put_refusal(n, line, at),
         NumberRead::Read(x) => put_shown(b" number ", front(signals, x.count), line, at),
     }
@@ -130,7 +130,7 @@ fn contents_of(message: &[u8], from: usize, to: usize) -> &[u8] {
 
 // Puts the called number of an IAM, and answers the next place.
 fn put_called(message: &[u8], signals: &mut [u8], line: &mut [u8], at: usize) -> usize {
-    match isup::read(message) {
+    match isup_codec::read(message) {
         Reading::Refused(n, place) => put_fault(n, place, line, at),
         Reading::Read(x) => {
             let parts = x.parts;
@@ -147,7 +147,7 @@ fn put_called(message: &[u8], signals: &mut [u8], line: &mut [u8], at: usize) ->
 
 // Puts the compact form of a message, and answers the next place.
 fn put_compact(message: &[u8], out: &mut [u8], line: &mut [u8], at: usize) -> usize {
-    match isup::compact(message, out) {
+    match isup_codec::compact(message, out) {
         Written::Refused(n, place) => put_fault(n, place, line, at),
         Written::Octets(n) => put_shown(b" compact ", front(out, n), line, at),
     }
@@ -155,12 +155,12 @@ fn put_compact(message: &[u8], out: &mut [u8], line: &mut [u8], at: usize) -> us
 
 // Puts the contents of the optional parameter with name 20, and answers the next place.
 fn put_found(message: &[u8], line: &mut [u8], at: usize) -> usize {
-    match finding::locate(message, &message[0..0], 0x20) {
+    match locating::locate(message, &message[0..0], 0x20) {
         Located::Refused(n, place) => put_fault(n, place, line, at),
         Located::Message(_, _) => {
             put_shown(
                 b" name 20 contents ",
-                finding::find(message, 0x20),
+                locating::find(message, 0x20),
                 line,
                 at,
             )

@@ -4,8 +4,8 @@ use mathlib.Core.Path.{_≡_, refl, sym, _∙_, ap}
 use mathlib.Core.List.{List, []}
 use Rattle.octets.specs.Octet.{AllOctets}
 use Rattle.octets.specs.Answer.{accepted}
-use Rattle.layout.specs.declared.Parts.{Parts}
-use Rattle.layout.specs.Spans.{partOf}
+use Rattle.parts.specs.declared.Parts.{Parts}
+use Rattle.parts.specs.Spans.{partOf}
 use Rattle.writing.specs.Write.{Order}
 use Rattle.writing.specs.Compact.{saidBy}
 use Rattle.family.specs.Forms.{FamilyCompact as Tight, FamilySays as FamilySaysSame}

@@ -7,7 +7,7 @@ use native.Mathlib.Omega.{arith}
 use lib.ListN.{length}
 use Rattle.octets.specs.Answer.{accepted, _then_}
 use Rattle.octets.proofs.Answer.{accepted-same, then-accepted, then-same}
-use Rattle.layout.specs.declared.Parts.{Parts}
+use Rattle.parts.specs.declared.Parts.{Parts}
 use Rattle.layout.specs.Gaps.{Agrees}
 use Rattle.family.specs.Family.{readIn}
 use Rattle.family.specs.Forms.{FamilyFormed as Formed}

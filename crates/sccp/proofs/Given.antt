@@ -8,11 +8,11 @@ use Rattle.octets.specs.Filled.{done, leaving, roomFor}
 use Rattle.layout.specs.declared.Shape.{Shape}
 use Rattle.layout.specs.declared.Row.{Row}
 use Rattle.layout.specs.declared.Row.the-variants.{Has, Unknown}
-use Rattle.layout.specs.declared.Parts.{Parts}
-use Rattle.layout.specs.declared.Body.{Body}
-use Rattle.layout.specs.declared.Body.the-variants.{Laid, Broken}
+use Rattle.parts.specs.declared.Parts.{Parts}
+use Rattle.parts.specs.declared.Body.{Body}
+use Rattle.parts.specs.declared.Body.the-variants.{Laid, Broken}
 use Rattle.layout.specs.Container.{kindAt, partsOf}
-use Rattle.layout.specs.Told.{bodyTold}
+use Rattle.parts.specs.Told.{bodyTold}
 use Rattle.writing.specs.Write.{writePartsOf}
 use Rattle.family.specs.Family.{readIn, rewriteIn, rewriteOf}
 use Rattle.sccp.specs.Table.{sccpShapeOf, sccp}

@@ -4,8 +4,9 @@ use mathlib.Core.List.{[], _∷_}
 use Rattle.octets.specs.Answer.{accepted, refused}
 use Rattle.octets.proofs.Answer.{refused-accepted}
 use Rattle.runs.specs.Run.{stepAt, stops, stopFrom}
-use Rattle.layout.specs.Spans.{span}
-use Rattle.layout.specs.Container.{nothing, runFrom, variableAt, optionalAt, variableSlot, optionalSlot, sharesOf, judged, held, containerOf, partsOf}
+use Rattle.parts.specs.Spans.{span}
+use Rattle.layout.specs.Container.{nothing, runFrom, variableAt, optionalAt, variableSlot, optionalSlot, containerOf, partsOf}
+use Rattle.parts.specs.Overlap.{sharesOf, judged, held}
 use Rattle.sccp.specs.declared.Message.{Message}
 use Rattle.sccp.specs.Table.{sccpShapeOf}
 use Rattle.sccp.specs.Read.{sccpReadOf}

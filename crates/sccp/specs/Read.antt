@@ -2,7 +2,7 @@
 use Prim.Native.Nat.{ℕ}
 use mathlib.Core.List.{List}
 use Rattle.octets.specs.Answer.{Answer, accepted, _then_}
-use Rattle.layout.specs.declared.Parts.{Parts}
+use Rattle.parts.specs.declared.Parts.{Parts}
 use Rattle.layout.specs.Container.{kindAt}
 use Rattle.family.specs.Family.{readIn}
 use Rattle.sccp.specs.declared.Message.{Message}

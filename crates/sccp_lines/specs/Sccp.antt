@@ -4,14 +4,14 @@ use mathlib.Core.List.{List, [], _∷_, _++_}
 use lib.Dec.{eqb}
 use Rattle.octets.specs.Choice.{if_then_else_}
 use Rattle.octets.specs.Answer.{Answer, accepted, refused}
-use Rattle.layout.specs.declared.Parts.{Parts}
-use Rattle.layout.specs.Spans.{partOf}
+use Rattle.parts.specs.declared.Parts.{Parts}
+use Rattle.parts.specs.Spans.{partOf}
 use Rattle.sccp.specs.declared.Message.{Message}
 use Rattle.sccp.specs.Table.{sccpShapeOf}
 use Rattle.sccp.specs.Read.{sccpReadOf}
 use Rattle.sccp.specs.Write.{sccpWriteOf, sccpCompactOf}
-use Rattle.requests.specs.Kinds.{FieldSays}
-use Rattle.requests.specs.Rows.{SCCP-SHAPE, SCCP-READ, SCCP-WRITE}
+use Rattle.fields.specs.Kinds.{FieldSays}
+use Rattle.forms.specs.Rows.{SCCP-SHAPE, SCCP-READ, SCCP-WRITE}
 use Rattle.requests.specs.Words.{numberAt, octetAt, octetsAt}
 use Rattle.lines.specs.Lines.{shown, faultLine, octetsLine, compactLine, lent}
 use Rattle.read_lines.specs.Read.{shapeLine}

@@ -11,13 +11,13 @@ ghost use Rattle.requests.specs.Words.{numberAt, octetsAt};
 ghost use Rattle.requests.specs.Along.{saidIn};
 ghost use Rattle.lines.specs.Lines.{octetsLine, againLine, compactLine, lent};
 ghost use Rattle.sccp_lines.specs.Sccp.{threeLine, typeLine, sccpLine};
-use layout::Parts;
+use fields::Field;
+use forms::SCCP_READ;
+use forms::SCCP_SHAPE;
+use forms::SCCP_WRITE;
 use octets::Written;
-use requests::Field;
+use parts::Parts;
 use requests::Request;
-use requests::SCCP_READ;
-use requests::SCCP_SHAPE;
-use requests::SCCP_WRITE;
 use sccp::Message;
 use sccp::Reading;
 
@@ -25,28 +25,33 @@ use sccp::Reading;
 fn put_three(message: &[u8], parts: Parts, out: &mut [u8], at: usize) -> usize
     ensures { λ r. ⌜ sheet (now (out .exit)) r ≡ pour (sheet (now (out .entry)) at) (threeLine (now (message .entry)) parts) ⌝ }
 {
-    let fixed = lines::put_shown(b" fixed ", read_lines::part(message, parts.fixed), out, at);
-    let first = lines::put_shown(
+    let fixed = sayings::put_shown(
+        b" fixed ",
+        message_lines::part(message, parts.fixed),
+        out,
+        at,
+    );
+    let first = sayings::put_shown(
         b" first ",
-        read_lines::part(message, parts.first),
+        message_lines::part(message, parts.first),
         out,
         fixed,
     );
-    let second = lines::put_shown(
+    let second = sayings::put_shown(
         b" second ",
-        read_lines::part(message, parts.second),
+        message_lines::part(message, parts.second),
         out,
         first,
     );
-    let third = lines::put_shown(
+    let third = sayings::put_shown(
         b" third ",
-        read_lines::part(message, parts.third),
+        message_lines::part(message, parts.third),
         out,
         second,
     );
-    lines::put_shown(
+    sayings::put_shown(
         b" optional ",
-        read_lines::part(message, parts.optional),
+        message_lines::part(message, parts.optional),
         out,
         third,
     )
@@ -57,7 +62,7 @@ fn say_message(message: &[u8], x: Message, out: &mut [u8]) -> usize
     ensures { λ r. ⌜ sheet (now (out .exit)) r ≡ pour (sheet (now (out .entry)) 0) (typeLine (now (message .entry)) (sccpTold (Reading.Read x))) ⌝ }
 {
     let parts = x.parts;
-    let kind = lines::put_shown(b"type ", &[x.kind], out, 0);
+    let kind = sayings::put_shown(b"type ", &[x.kind], out, 0);
     put_three(message, parts, out, kind)
 }
 
@@ -65,8 +70,8 @@ fn say_message(message: &[u8], x: Message, out: &mut [u8]) -> usize
 fn say_read(message: &[u8], out: &mut [u8]) -> usize
     ensures { λ r. ⌜ sheet (now (out .exit)) r ≡ pour (sheet (now (out .entry)) 0) (typeLine (now (message .entry)) (sccpReadOf (now (message .entry)))) ⌝ }
 {
-    match sccp::read(message) {
-        Reading::Refused(n, at) => lines::say_fault(n, at as u32, out),
+    match sccp_codec::read(message) {
+        Reading::Refused(n, at) => sayings::say_fault(n, at as u32, out),
         Reading::Read(x) => say_message(message, x, out),
     }
 }
@@ -86,18 +91,18 @@ fn say_write(fields: [Field; 8], octets: &[u8], out: &mut [u8]) -> usize
     let third = fields[4];
     let optional = fields[5];
     let room = fields[6];
-    let mut space = lines::blank_space();
-    let buffer = lines::front(&mut space, room.value as usize);
-    let written = sccp::write(
+    let mut space = pieces::blank_space();
+    let buffer = pieces::front(&mut space, room.value as usize);
+    let written = sccp_codec::write(
         kind.value,
-        lines::stretch(octets, fixed.from, fixed.count as usize),
-        lines::stretch(octets, first.from, first.count as usize),
-        lines::stretch(octets, second.from, second.count as usize),
-        lines::stretch(octets, third.from, third.count as usize),
-        lines::stretch(octets, optional.from, optional.count as usize),
+        pieces::stretch(octets, fixed.from, fixed.count as usize),
+        pieces::stretch(octets, first.from, first.count as usize),
+        pieces::stretch(octets, second.from, second.count as usize),
+        pieces::stretch(octets, third.from, third.count as usize),
+        pieces::stretch(octets, optional.from, optional.count as usize),
         buffer,
     );
-    lines::say_written(written, buffer, out)
+    sayings::say_written(written, buffer, out)
 }
 
 // What was written again to the front of a buffer, or the reader's refusal with its octet.
@@ -106,8 +111,10 @@ fn say_again(written: Written, buffer: &[u8], out: &mut [u8]) -> usize
     ensures { λ r. ⌜ sheet (now (out .exit)) r ≡ pour (sheet (now (out .entry)) 0) (againLine (writtenTold written) (now (buffer .entry))) ⌝ }
 {
     match written {
-        Written::Octets(n) => { lines::put_shown(b"octets ", lines::stretch(buffer, 0, n), out, 0) }
-        Written::Refused(n, at) => lines::say_fault(n, at as u32, out),
+        Written::Octets(n) => {
+            sayings::put_shown(b"octets ", pieces::stretch(buffer, 0, n), out, 0)
+        }
+        Written::Refused(n, at) => sayings::say_fault(n, at as u32, out),
     }
 }
 
@@ -118,10 +125,10 @@ fn say_compact(fields: [Field; 8], octets: &[u8], out: &mut [u8]) -> usize
 {
     let message = fields[0];
     let room = fields[1];
-    let mut space = lines::blank_space();
-    let buffer = lines::front(&mut space, room.value as usize);
-    let written = sccp::compact(
-        lines::stretch(octets, message.from, message.count as usize),
+    let mut space = pieces::blank_space();
+    let buffer = pieces::front(&mut space, room.value as usize);
+    let written = sccp_codec::compact(
+        pieces::stretch(octets, message.from, message.count as usize),
         buffer,
     );
     say_again(written, buffer, out)
@@ -134,12 +141,12 @@ pub fn sccp_line(request: Request, octets: &[u8], out: &mut [u8]) -> usize
     let fields = request.fields;
     if request.which == SCCP_SHAPE {
         let kind = fields[0];
-        return read_lines::say_row(sccp::shape_of((kind.value % 256) as u8), out);
+        return shape_lines::say_row(sccp_codec::shape_of((kind.value % 256) as u8), out);
     }
     if request.which == SCCP_READ {
         let message = fields[0];
         return say_read(
-            lines::stretch(octets, message.from, message.count as usize),
+            pieces::stretch(octets, message.from, message.count as usize),
             out,
         );
     }

@@ -1,3 +1,3 @@
-pub mod Spread
 pub mod Leaving
+pub mod Answered
 pub mod Determined

@@ -1,22 +1,18 @@
--- What the requests of the tables (own, helper, set, rows) and of the hub (act) do: the tables afterwards, and the answer's line.
+-- What the requests of the tables (own, helper, set, rows) do: the tables afterwards, and the answer's line.
 use Prim.Native.Nat.{ℕ, _+_, _-_}
-use mathlib.Core.Bool.{Bool, false}
 use mathlib.Core.List.{List}
 use lib.Dec.{eqb}
-use lib.ListN.{length, take}
 use Rattle.octets.specs.Octet.{octets}
 use Rattle.octets.specs.Choice.{if_then_else_}
-use Rattle.octets.specs.Answer.{Answer, accepted, refused}
 use Rattle.octets.specs.Applied.{spread}
 use Rattle.totals.specs.Blocks.{recounted}
-use Rattle.hub.specs.Tables.{Tables, tables, sized}
-use Rattle.board.specs.Board.{BoardAfter, boardOf}
+use Rattle.rights.specs.Tables.{Tables, tables}
 use Rattle.words.specs.Said.{said}
 use Rattle.printing.specs.Sheet.{Sheet, pour}
-use Rattle.requests.specs.Kinds.{FieldSays}
-use Rattle.requests.specs.Rows.{OWN, HELPER, SET}
-use Rattle.requests.specs.Words.{numberAt, octetAt, octetsAt}
-use Rattle.lines.specs.Lines.{shown, faultLine, lent}
+use Rattle.fields.specs.Kinds.{FieldSays}
+use Rattle.forms.specs.Rows.{OWN, HELPER, SET}
+use Rattle.requests.specs.Words.{numberAt, octetAt}
+use Rattle.lines.specs.Lines.{shown}
 
 -- the hub's tables, and the totals
 pub record DeskTables : Type 0 where
@@ -26,10 +22,6 @@ pub record DeskTables : Type 0 where
 -- states, owners, helpers and totals together
 abbrev pub deskTables : List ℕ → List ℕ → List ℕ → List ℕ → DeskTables
 deskTables states owners helpers totals = record { tables = tables states owners helpers; totals = totals }
-
--- each has its length
-abbrev pub allSized : DeskTables → Bool
-allSized D = if sized (D .tables) then eqb (length (D .totals)) 64 else false
 
 -- the tables afterwards, and the answer's line
 pub record Turn : Type 0 where
@@ -70,20 +62,3 @@ tableTurn D which gs =
     else if eqb which HELPER then turn (deskTables (D .tables .states) (D .tables .owners) (spread (D .tables .helpers) (numberAt gs 0) (numberAt gs 1) (octetAt gs 2)) (D .totals)) (said "ok")
     else if eqb which SET then turn (setTurn D (numberAt gs 0) (numberAt gs 1) (octetAt gs 2)) (said "ok")
     else turn D (rowsLine (D .tables .states) (numberAt gs 0) (numberAt gs 1))
-
--- answer 05002901020300, or answer - where there are no answer octets; or the refusal with the reader's octet
-unfoldable pub replyLine : Answer ℕ → List ℕ → List ℕ
-replyLine (accepted n) buffer = shown "answer " (take n buffer)
-replyLine (refused n at) buffer = faultLine n at
-
--- the same of what the hub did
-abbrev pub actLine : BoardAfter → List ℕ
-actLine a = replyLine (a .answer) (a .buffer)
-
--- what the hub does with the message that the fields of an act say, and the room
-abbrev pub actsOf : DeskTables → List FieldSays → BoardAfter
-actsOf D gs = boardOf (D .tables) (D .totals) (numberAt gs 0) (octetsAt gs 1) (lent (numberAt gs 2))
-
--- the hub's request: act
-unfoldable pub actTurn : DeskTables → List FieldSays → Turn
-actTurn D gs = turn (deskTables (actsOf D gs .states) (D .tables .owners) (D .tables .helpers) (actsOf D gs .totals)) (actLine (actsOf D gs))

@@ -83,10 +83,10 @@ fn tally_in(sender: u8, owners: &[u8], states: &[u8], accepted: &[u16], refused:
 fn put_numbers(t: Tally, out: &mut [u8], at: usize) -> usize
     ensures { λ r. ⌜ sheet (now (out .exit)) r ≡ pour (sheet (now (out .entry)) at) (fourNumbers t) ⌝ }
 {
-    let messages = lines::put_count(b" ", t.messages, out, at);
-    let accepted = lines::put_count(b" ", t.accepted, out, messages);
-    let refused = lines::put_count(b" ", t.refused, out, accepted);
-    let busy = lines::put_count(b" ", t.busy, out, refused);
+    let messages = sayings::put_count(b" ", t.messages, out, at);
+    let accepted = sayings::put_count(b" ", t.accepted, out, messages);
+    let refused = sayings::put_count(b" ", t.refused, out, accepted);
+    let busy = sayings::put_count(b" ", t.busy, out, refused);
     printing::put_octet(b'\n', out, busy)
 }
 
@@ -167,7 +167,7 @@ fn done(awaits: Await) -> bool
 fn put_refusal(out: &mut [u8]) -> usize
     ensures { λ r. ⌜ sheet (now (out .exit)) r ≡ pour (sheet (now (out .entry)) 0) noBook ⌝ }
 {
-    let next = lines::say_refusal(24, out);
+    let next = sayings::say_refusal(24, out);
     printing::put_octet(b'\n', out, next)
 }
 
@@ -185,7 +185,7 @@ pub fn report(
         (reportOf place (day (now (owners .entry)) (now (states .entry)) (now (accepted .entry)) (now (refused .entry)))) ⌝ }
 {
     let awaits = place.awaits;
-    if !day::sized(owners.len(), states.len(), accepted.len(), refused.len()) {
+    if !opening::sized(owners.len(), states.len(), accepted.len(), refused.len()) {
         return put_refusal(out);
     }
     if done(awaits) {

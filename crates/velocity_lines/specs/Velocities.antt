@@ -19,8 +19,8 @@ use Rattle.velocity.specs.declared.Codes.{Codes}
 use Rattle.velocity.specs.declared.Codes.the-variants.{Horizontal, WithVertical}
 use Rattle.velocity.specs.declared.Course.{Course}
 use Rattle.velocity.specs.Velocity.{codesOf, Stands, alone, beside, knownOf}
-use Rattle.requests.specs.Kinds.{FieldSays}
-use Rattle.requests.specs.Rows.{VELOCITY, VELOCITY-LONG, VELOCITY-BACK}
+use Rattle.fields.specs.Kinds.{FieldSays}
+use Rattle.forms.specs.Rows.{VELOCITY, VELOCITY-LONG, VELOCITY-BACK}
 use Rattle.requests.specs.Words.{numberAt, octetAt, octetsAt}
 use Rattle.lines.specs.Lines.{counted, refusal}
 use Rattle.velocity_lines.specs.declared.Marked.{Marked}

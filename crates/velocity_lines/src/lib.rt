@@ -5,10 +5,10 @@ ghost use Rattle.velocity.specs.Told.{codedTold, knownTold};
 ghost use Rattle.requests.specs.Along.{saidIn};
 ghost use Rattle.velocity_lines.specs.Velocities.{typedMark, markWord, codesLine, codedLine, wholeIn, courseLine, knownLine, velocityLine, velocityLongLine, backLongLine, velocitiesLine};
 use decimals::Real;
+use forms::VELOCITY;
+use forms::VELOCITY_BACK;
+use forms::VELOCITY_LONG;
 use requests::Request;
-use requests::VELOCITY;
-use requests::VELOCITY_BACK;
-use requests::VELOCITY_LONG;
 use velocity::Coded;
 use velocity::Codes;
 use velocity::Course;
@@ -64,13 +64,13 @@ fn say_codes(codes: Codes, out: &mut [u8]) -> usize
 {
     match codes {
         Codes::Horizontal(b, s) => {
-            let bearing = lines::put_count(b"bearing ", b as u32, out, 0);
-            lines::put_count(b" speed ", s as u32, out, bearing)
+            let bearing = sayings::put_count(b"bearing ", b as u32, out, 0);
+            sayings::put_count(b" speed ", s as u32, out, bearing)
         }
         Codes::WithVertical(b, s, u, mark) => {
-            let bearing = lines::put_count(b"bearing ", b as u32, out, 0);
-            let speed = lines::put_count(b" speed ", s as u32, out, bearing);
-            let vertical = lines::put_count(b" vertical ", u as u32, out, speed);
+            let bearing = sayings::put_count(b"bearing ", b as u32, out, 0);
+            let speed = sayings::put_count(b" speed ", s as u32, out, bearing);
+            let vertical = sayings::put_count(b" vertical ", u as u32, out, speed);
             put_mark(mark, out, vertical)
         }
     }
@@ -82,7 +82,7 @@ fn say_coded(coded: Coded, out: &mut [u8]) -> usize
 {
     match coded {
         Coded::As(codes) => say_codes(codes, out),
-        Coded::Refused(n) => lines::say_refusal(n, out),
+        Coded::Refused(n) => sayings::say_refusal(n, out),
     }
 }
 
@@ -90,11 +90,11 @@ fn say_coded(coded: Coded, out: &mut [u8]) -> usize
 fn say_velocity(bearing: &[u8], speed: &[u8], out: &mut [u8]) -> usize
     ensures { λ r. ⌜ sheet (now (out .exit)) r ≡ pour (sheet (now (out .entry)) 0) (velocityLine (now (bearing .entry)) (now (speed .entry))) ⌝ }
 {
-    match decimals::real_of(bearing) {
+    match reals::real_of(bearing) {
         Real::Not => printing::put_text(b"bad line", out, 0),
-        Real::Is(b) => match decimals::real_of(speed) {
+        Real::Is(b) => match reals::real_of(speed) {
             Real::Not => printing::put_text(b"bad line", out, 0),
-            Real::Is(s) => say_coded(velocity::code(Velocity::Horizontal(b, s)), out),
+            Real::Is(s) => say_coded(coding::code(Velocity::Horizontal(b, s)), out),
         },
     }
 }
@@ -109,16 +109,16 @@ fn say_velocity_long(
 ) -> usize
     ensures { λ r. ⌜ sheet (now (out .exit)) r ≡ pour (sheet (now (out .entry)) 0) (velocityLongLine (now (bearing .entry)) (now (speed .entry)) (now (vertical .entry)) (now (mark .entry))) ⌝ }
 {
-    match decimals::real_of(bearing) {
+    match reals::real_of(bearing) {
         Real::Not => printing::put_text(b"bad line", out, 0),
-        Real::Is(b) => match decimals::real_of(speed) {
+        Real::Is(b) => match reals::real_of(speed) {
             Real::Not => printing::put_text(b"bad line", out, 0),
-            Real::Is(s) => match decimals::real_of(vertical) {
+            Real::Is(s) => match reals::real_of(vertical) {
                 Real::Not => printing::put_text(b"bad line", out, 0),
                 Real::Is(u) => match mark_of(mark) {
                     Marked::Not => printing::put_text(b"bad line", out, 0),
                     Marked::Is(m) => {
-                        say_coded(velocity::code(Velocity::WithVertical(b, s, u, m)), out)
+                        say_coded(coding::code(Velocity::WithVertical(b, s, u, m)), out)
                     }
                 },
             },
@@ -142,8 +142,8 @@ fn whole(x: f64) -> u32
 fn put_course(course: Course, out: &mut [u8]) -> usize
     ensures { λ r. ⌜ sheet (now (out .exit)) r ≡ pour (sheet (now (out .entry)) 0) (courseLine course) ⌝ }
 {
-    let bearing = lines::put_count(b"bearing ", whole(course.bearing), out, 0);
-    lines::put_count(b" speed ", whole(course.speed), out, bearing)
+    let bearing = sayings::put_count(b"bearing ", whole(course.bearing), out, 0);
+    sayings::put_count(b" speed ", whole(course.speed), out, bearing)
 }
 
 // Says what codes stand for, or the refusal.
@@ -154,10 +154,10 @@ fn say_known(known: Known, out: &mut [u8]) -> usize
         Known::Horizontal(course) => put_course(course, out),
         Known::WithVertical(course, u, mark) => {
             let speed = put_course(course, out);
-            let vertical = lines::put_count(b" vertical ", whole(u), out, speed);
+            let vertical = sayings::put_count(b" vertical ", whole(u), out, speed);
             put_mark(mark, out, vertical)
         }
-        Known::Refused(n) => lines::say_refusal(n, out),
+        Known::Refused(n) => sayings::say_refusal(n, out),
     }
 }
 
@@ -168,7 +168,7 @@ fn say_back_long(bearing: u16, speed: u16, vertical: u8, mark: &[u8], out: &mut 
     match mark_of(mark) {
         Marked::Not => printing::put_text(b"bad line", out, 0),
         Marked::Is(m) => say_known(
-            velocity::read(Codes::WithVertical(bearing, speed, vertical, m)),
+            courses::read(Codes::WithVertical(bearing, speed, vertical, m)),
             out,
         ),
     }
@@ -185,17 +185,17 @@ pub fn velocities_line(request: Request, octets: &[u8], out: &mut [u8]) -> usize
     let mark = fields[3];
     if request.which == VELOCITY {
         return say_velocity(
-            lines::stretch(octets, bearing.from, bearing.count as usize),
-            lines::stretch(octets, speed.from, speed.count as usize),
+            pieces::stretch(octets, bearing.from, bearing.count as usize),
+            pieces::stretch(octets, speed.from, speed.count as usize),
             out,
         );
     }
     if request.which == VELOCITY_LONG {
         return say_velocity_long(
-            lines::stretch(octets, bearing.from, bearing.count as usize),
-            lines::stretch(octets, speed.from, speed.count as usize),
-            lines::stretch(octets, vertical.from, vertical.count as usize),
-            lines::stretch(octets, mark.from, mark.count as usize),
+            pieces::stretch(octets, bearing.from, bearing.count as usize),
+            pieces::stretch(octets, speed.from, speed.count as usize),
+            pieces::stretch(octets, vertical.from, vertical.count as usize),
+            pieces::stretch(octets, mark.from, mark.count as usize),
             out,
         );
     }
@@ -203,7 +203,7 @@ pub fn velocities_line(request: Request, octets: &[u8], out: &mut [u8]) -> usize
     let speed_code = (speed.value % 65536) as u16;
     if request.which == VELOCITY_BACK {
         return say_known(
-            velocity::read(Codes::Horizontal(bearing_code, speed_code)),
+            courses::read(Codes::Horizontal(bearing_code, speed_code)),
             out,
         );
     }
@@ -211,7 +211,7 @@ pub fn velocities_line(request: Request, octets: &[u8], out: &mut [u8]) -> usize
         bearing_code,
         speed_code,
         (vertical.value % 256) as u8,
-        lines::stretch(octets, mark.from, mark.count as usize),
+        pieces::stretch(octets, mark.from, mark.count as usize),
         out,
     )
 }

@@ -11,11 +11,12 @@ use lib.Seq.{length-take-le}
 use Rattle.octets.specs.Octet.{octet, octets}
 use Rattle.octets.proofs.Octet.{length-octets, Within, within-octets, within-join, within-at, within-nothing, within-one, within-stretch}
 use Rattle.octets.proofs.Counting.{inside}
-use Rattle.layout.specs.declared.Span.{Span}
+use Rattle.parts.specs.declared.Span.{Span}
 use Rattle.layout.specs.declared.Shape.{Shape}
-use Rattle.layout.specs.declared.Parts.{Parts}
+use Rattle.parts.specs.declared.Parts.{Parts}
 use Rattle.runs.specs.Run.{isRun}
-use Rattle.layout.specs.Container.{nothing, bit, startOf, endOf, contentsOf, runOf, held}
+use Rattle.layout.specs.Container.{nothing, bit, startOf, endOf}
+use Rattle.parts.specs.Overlap.{contentsOf, runOf, held}
 use Rattle.layout.specs.Laid.{Variable, VariableSlot, OptionalSlot, LaidOut}
 use Rattle.runs.specs.Params.{Param, Params}
 use Rattle.runs.proofs.Runs.{params-on}
@@ -23,7 +24,7 @@ use Rattle.runs.proofs.Exactly.{is-run-exactly}
 use Rattle.layout.proofs.Exactly.{run-params, parts-inside}
 use Rattle.writing.specs.Write.{contentsIn, pointers, ahead, variables, runPointer, closedRun, gapOf, formOf, orderOctets, Fits}
 use Rattle.writing.specs.Compact.{Tight, Compact, saidWith, saidBy}
-use Rattle.layout.specs.Spans.{partOf}
+use Rattle.parts.specs.Spans.{partOf}
 use Rattle.writing.proofs.Plain.{Count, none, one, two, more, counted}
 use Rattle.writing.proofs.Placed.{ahead-sum, assembled}
 use Rattle.writing.proofs.Storing.{closed-run}

@@ -12,9 +12,10 @@ use lib.Seq.{length-take-le}
 use Rattle.octets.specs.Octet.{octet, octets}
 use Rattle.octets.proofs.Octet.{Within, within-all, within-left, within-right, within-at, within-head}
 use Rattle.layout.specs.declared.Shape.{Shape}
-use Rattle.layout.specs.declared.Parts.{Parts}
-use Rattle.layout.specs.Spans.{span, partOf}
-use Rattle.layout.specs.Container.{nothing, bit, startOf, endOf, contentsOf, runOf, held}
+use Rattle.parts.specs.declared.Parts.{Parts}
+use Rattle.parts.specs.Spans.{span, partOf}
+use Rattle.layout.specs.Container.{nothing, bit, startOf, endOf}
+use Rattle.parts.specs.Overlap.{contentsOf, runOf, held}
 use Rattle.runs.specs.Params.{Param, Params}
 use Rattle.layout.specs.Laid.{VariableSlot, LaidOut}
 use Rattle.writing.specs.Write.{Order, order, contentsIn, ahead, variables, closedRun, gapOf, orderOctets, Fits}

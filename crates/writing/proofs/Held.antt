@@ -11,11 +11,11 @@ use Rattle.octets.specs.Octet.{AllOctets}
 use Rattle.octets.specs.Choice.{if_then_else_}
 use Rattle.octets.proofs.Octet.{Within, within-right, within-head}
 use Rattle.layout.specs.declared.Shape.{Shape}
-use Rattle.layout.specs.declared.Parts.{Parts}
+use Rattle.parts.specs.declared.Parts.{Parts}
 use Rattle.runs.specs.Params.{Param}
 use Rattle.writing.specs.Write.{contentsIn, variables, marks, exceeds}
 use Rattle.writing.specs.Compact.{Compact, saidBy}
-use Rattle.layout.specs.Spans.{partOf}
+use Rattle.parts.specs.Spans.{partOf}
 use Rattle.writing.proofs.Placed.{Pieces, pieced}
 use Rattle.writing.proofs.Again.{compact-is}
 

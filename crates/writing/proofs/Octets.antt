@@ -10,9 +10,9 @@ use lib.ListN.{length, take, drop}
 use Rattle.octets.specs.Octet.{AllOctets}
 use Rattle.octets.specs.Choice.{if_then_else_}
 use Rattle.octets.specs.Answer.{accepted}
-use Rattle.layout.specs.declared.Span.{Span}
+use Rattle.parts.specs.declared.Span.{Span}
 use Rattle.layout.specs.declared.Shape.{Shape}
-use Rattle.layout.specs.Spans.{spanSize, partOf}
+use Rattle.parts.specs.Spans.{spanSize, partOf}
 use Rattle.measuring.proofs.Near.{neither}
 use Rattle.writing.specs.Write.{Order, contentsIn, pointers, ahead, variables, runPointer, closedRun, gapOf, formOf, marks, exceeds, writtenOf}
 use Rattle.writing.proofs.Taken.{written-taken}

@@ -9,8 +9,8 @@ use native.Mathlib.Nat.{le-of-suc-le-suc}
 use lib.ListN.{length, getD, length-append}
 use Rattle.octets.specs.Octet.{octet, octets}
 use Rattle.octets.proofs.Octet.{Within, within-octets, within-left, within-right, within-at, within-self, within-head, within-join, within-whole}
-use Rattle.layout.specs.declared.Span.{Span}
-use Rattle.layout.specs.Spans.{span}
+use Rattle.parts.specs.declared.Span.{Span}
+use Rattle.parts.specs.Spans.{span}
 use Rattle.layout.specs.Container.{nothing, bit}
 use Rattle.layout.specs.Laid.{Variable, OptionalSlot, Share}
 use Rattle.runs.specs.Params.{Param, Params}

@@ -14,15 +14,16 @@ use Rattle.octets.proofs.Choice.{decided}
 use Rattle.octets.proofs.Octet.{length-octets}
 use Rattle.octets.specs.Sum.{total}
 use Rattle.octets.proofs.Counting.{inside, inside-or, total-past, total-span, total-add, total-most}
-use Rattle.layout.specs.declared.Span.{Span}
+use Rattle.parts.specs.declared.Span.{Span}
 use Rattle.layout.specs.declared.Shape.{Shape}
-use Rattle.layout.specs.declared.Parts.{Parts}
-use Rattle.layout.specs.Container.{nothing, startOf, endOf, contentsOf, runOf, held}
+use Rattle.parts.specs.declared.Parts.{Parts}
+use Rattle.layout.specs.Container.{nothing, startOf, endOf}
+use Rattle.parts.specs.Overlap.{contentsOf, runOf, held}
 use Rattle.runs.specs.Params.{Param}
 use Rattle.layout.specs.Laid.{VariableSlot, OptionalSlot, In, Share, AllApart, LaidOut}
 use Rattle.runs.proofs.Runs.{params-on}
 use Rattle.writing.specs.Write.{contentsIn, variables, closedRun, orderOctets, marks, exceeds, writtenOf}
-use Rattle.layout.specs.Spans.{partOf}
+use Rattle.parts.specs.Spans.{partOf}
 use Rattle.writing.specs.Compact.{saidWith}
 use Rattle.writing.proofs.Plain.{Count, none, one, two, more, counted, fits-exactly}
 use Rattle.writing.proofs.Placed.{pieced}

@@ -15,7 +15,7 @@ use Rattle.octets.proofs.Choice.{chosen}
 use Rattle.octets.proofs.Answer.{refused-accepted, accepted-same, past-test}
 use Rattle.octets.proofs.Filled.{room-accepted, take-filled}
 use Rattle.layout.specs.declared.Shape.{Shape}
-use Rattle.layout.specs.declared.Parts.{Parts}
+use Rattle.parts.specs.declared.Parts.{Parts}
 use Rattle.layout.specs.declared.Row.the-variants.{Has}
 use Rattle.layout.specs.Container.{partsOf}
 use Rattle.layout.proofs.Exactly.{parts-exactly}

@@ -5,10 +5,10 @@ use mathlib.Core.List.{List, [], _∷_}
 use mathlib.Core.Logic.{_⊎_}
 use lib.ListN.{length}
 use Rattle.octets.specs.Octet.{octet, octets}
-use Rattle.layout.specs.declared.Span.{Span}
+use Rattle.parts.specs.declared.Span.{Span}
 use Rattle.layout.specs.declared.Shape.{Shape}
-use Rattle.layout.specs.declared.Parts.{Parts}
-use Rattle.layout.specs.Spans.{partOf}
+use Rattle.parts.specs.declared.Parts.{Parts}
+use Rattle.parts.specs.Spans.{partOf}
 use Rattle.layout.specs.Container.{nothing, endOf}
 use Rattle.runs.specs.Params.{Param}
 use Rattle.layout.specs.Laid.{LaidOut}

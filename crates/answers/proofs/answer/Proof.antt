@@ -1,6 +1,6 @@
 use mathlib.Core.Path.{refl, _∙_, ap}
-use Rattle.answers.specs.Turns.{withLineEnd}
-use Rattle.answers.proofs.Determined.{desk-left-same}
+use Rattle.answers.specs.Answers.{withLineEnd}
+use Rattle.turns.proofs.Determined.{desk-left-same}
 use borrow.Author.Needs.{needs}
 use Rattle.answers.proofs.answer.Statement.{statement}
 use Rattle.answers.proofs.answer.Tie as tie

@@ -1,10 +1,10 @@
-use mathlib.Core.Path.{refl, _∙_, ap}
+use mathlib.Core.Path.{refl, sym, _∙_, ap}
 use denote.Ref.{now}
 use lib.ListN.{length}
 use Rattle.printing.specs.Sheet.{sheet}
-use Rattle.answers.specs.Turns.{deskFrom, DeskTurn, deskLeftBy}
-use Rattle.answers.proofs.Determined.{desk-left-same}
-use Rattle.answers.proofs.Turned.{turn-scratch, turn-states, turn-owners, turn-helpers, turn-totals, turn-ticks, turn-asked}
+use Rattle.turns.specs.Turns.{deskFrom, DeskTurn, deskLeftBy}
+use Rattle.turns.proofs.Determined.{desk-left-same}
+use Rattle.answers.proofs.Turned.{turn-scratch, turn-unsized, turn-asked}
 use borrow.Author.Needs.{needs}
 use Rattle.answers.proofs.answer_line.Statement.{statement}
 use Rattle.answers.proofs.answer_line.Tie as tie
@@ -23,60 +23,8 @@ returns c =
     let a = c .before .before .before .before .before .before .before .before .before .before .before .before .before .before .args in
     desk-left-same refl (c .before .before .put-text .ensures) ∙ ap (λ (x : DeskTurn). deskLeftBy x (sheet (now (a .out)) 0)) (turn-scratch (now (a .line)) (length (now (a .scratch))) (deskFrom (now (a .states)) (now (a .owners)) (now (a .helpers)) (now (a .totals)) (now (a .ticks))) (c .before .before .before .before .before .if1 .taken))
 
-say-refusal-requires : tie.Need-say-refusal-requires
-say-refusal-requires c κs = search needs
-
-same-length-2 : tie.Need-same-length-2
-same-length-2 c = search needs
-
-returns-2 : tie.Need-returns-2
-returns-2 c =
-    let a = c .before .before .before .before .before .before .before .before .before .before .before .before .before .before .args in
-    desk-left-same refl (c .before .before .say-refusal .ensures) ∙ ap (λ (x : DeskTurn). deskLeftBy x (sheet (now (a .out)) 0)) (turn-states (now (a .line)) (length (now (a .scratch))) (deskFrom (now (a .states)) (now (a .owners)) (now (a .helpers)) (now (a .totals)) (now (a .ticks))) (c .before .before .before .before .before .if1 .left) (c .before .before .before .before .if2 .taken))
-
-say-refusal-requires-2 : tie.Need-say-refusal-requires-2
-say-refusal-requires-2 c κs = search needs
-
-same-length-3 : tie.Need-same-length-3
-same-length-3 c = search needs
-
-returns-3 : tie.Need-returns-3
-returns-3 c =
-    let a = c .before .before .before .before .before .before .before .before .before .before .before .before .before .before .before .args in
-    desk-left-same refl (c .before .before .say-refusal2 .ensures) ∙ ap (λ (x : DeskTurn). deskLeftBy x (sheet (now (a .out)) 0)) (turn-owners (now (a .line)) (length (now (a .scratch))) (deskFrom (now (a .states)) (now (a .owners)) (now (a .helpers)) (now (a .totals)) (now (a .ticks))) (c .before .before .before .before .before .before .if1 .left) (c .before .before .before .before .before .if2 .left) (c .before .before .before .before .if3 .taken))
-
-say-refusal-requires-3 : tie.Need-say-refusal-requires-3
-say-refusal-requires-3 c κs = search needs
-
-same-length-4 : tie.Need-same-length-4
-same-length-4 c = search needs
-
-returns-4 : tie.Need-returns-4
-returns-4 c =
-    let a = c .before .before .before .before .before .before .before .before .before .before .before .before .before .before .before .before .args in
-    desk-left-same refl (c .before .before .say-refusal3 .ensures) ∙ ap (λ (x : DeskTurn). deskLeftBy x (sheet (now (a .out)) 0)) (turn-helpers (now (a .line)) (length (now (a .scratch))) (deskFrom (now (a .states)) (now (a .owners)) (now (a .helpers)) (now (a .totals)) (now (a .ticks))) (c .before .before .before .before .before .before .before .if1 .left) (c .before .before .before .before .before .before .if2 .left) (c .before .before .before .before .before .if3 .left) (c .before .before .before .before .if4 .taken))
-
-say-refusal-requires-4 : tie.Need-say-refusal-requires-4
-say-refusal-requires-4 c κs = search needs
-
-same-length-5 : tie.Need-same-length-5
-same-length-5 c = search needs
-
-returns-5 : tie.Need-returns-5
-returns-5 c =
-    let a = c .before .before .before .before .before .before .before .before .before .before .before .before .before .before .before .before .before .args in
-    desk-left-same refl (c .before .before .say-refusal4 .ensures) ∙ ap (λ (x : DeskTurn). deskLeftBy x (sheet (now (a .out)) 0)) (turn-totals (now (a .line)) (length (now (a .scratch))) (deskFrom (now (a .states)) (now (a .owners)) (now (a .helpers)) (now (a .totals)) (now (a .ticks))) (c .before .before .before .before .before .before .before .before .if1 .left) (c .before .before .before .before .before .before .before .if2 .left) (c .before .before .before .before .before .before .if3 .left) (c .before .before .before .before .before .if4 .left) (c .before .before .before .before .if5 .taken))
-
-say-refusal-requires-5 : tie.Need-say-refusal-requires-5
-say-refusal-requires-5 c κs = search needs
-
-same-length-6 : tie.Need-same-length-6
-same-length-6 c = search needs
-
-returns-6 : tie.Need-returns-6
-returns-6 c =
-    let a = c .before .before .before .before .before .before .before .before .before .before .before .before .before .before .before .before .before .before .args in
-    desk-left-same refl (c .before .before .say-refusal5 .ensures) ∙ ap (λ (x : DeskTurn). deskLeftBy x (sheet (now (a .out)) 0)) (turn-ticks (now (a .line)) (length (now (a .scratch))) (deskFrom (now (a .states)) (now (a .owners)) (now (a .helpers)) (now (a .totals)) (now (a .ticks))) (c .before .before .before .before .before .before .before .before .before .if1 .left) (c .before .before .before .before .before .before .before .before .if2 .left) (c .before .before .before .before .before .before .before .if3 .left) (c .before .before .before .before .before .before .if4 .left) (c .before .before .before .before .before .if5 .left) (c .before .before .before .before .if6 .taken))
+sized-requires : tie.Need-sized-requires
+sized-requires c κs = search needs
 
 request-of-requires : tie.Need-request-of-requires
 request-of-requires c κs = search needs
@@ -84,31 +32,43 @@ request-of-requires c κs = search needs
 row-turn-requires : tie.Need-row-turn-requires
 row-turn-requires c κs = search needs
 
+same-length-2 : tie.Need-same-length-2
+same-length-2 c = search needs
+
+same-length-3 : tie.Need-same-length-3
+same-length-3 c = search needs
+
+same-length-4 : tie.Need-same-length-4
+same-length-4 c = search needs
+
+same-length-5 : tie.Need-same-length-5
+same-length-5 c = search needs
+
+same-length-6 : tie.Need-same-length-6
+same-length-6 c = search needs
+
 same-length-7 : tie.Need-same-length-7
 same-length-7 c = search needs
 
 same-length-8 : tie.Need-same-length-8
 same-length-8 c = search needs
 
+returns-2 : tie.Need-returns-2
+returns-2 c =
+    let a = c .before .before .before .before .before .before .before .before .before .before .before .before .before .before .before .before .before .before .before .before .before .before .before .before .before .before .before .before .before .before .before .before .before .before .before .args in
+    c .before .before .before .before .before .before .before .before .before .before .before .before .row-turn .ensures
+    ∙ ap (λ (x : DeskTurn). deskLeftBy x (sheet (now (a .out)) 0)) (turn-asked (now (a .line)) (now (a .scratch)) _ _ (c .before .before .before .before .before .before .before .before .before .before .before .before .before .before .before .before .before .before .before .before .before .before .request-of .ensures) (c .before .before .before .before .before .before .before .before .before .before .before .before .before .before .before .before .before .before .before .before .before .before .before .before .before .before .if1 .left) (deskFrom (now (a .states)) (now (a .owners)) (now (a .helpers)) (now (a .totals)) (now (a .ticks))) (sym (c .before .before .before .before .before .before .before .before .before .before .before .before .before .before .before .before .before .before .before .before .before .before .before .before .before .sized .ensures) ∙ c .before .before .before .before .before .before .before .before .before .before .before .before .before .before .before .before .before .before .before .before .before .before .before .before .if2 .taken))
+
+say-refusal-requires : tie.Need-say-refusal-requires
+say-refusal-requires c κs = search needs
+
 same-length-9 : tie.Need-same-length-9
 same-length-9 c = search needs
 
-same-length-10 : tie.Need-same-length-10
-same-length-10 c = search needs
-
-same-length-11 : tie.Need-same-length-11
-same-length-11 c = search needs
-
-same-length-12 : tie.Need-same-length-12
-same-length-12 c = search needs
-
-same-length-13 : tie.Need-same-length-13
-same-length-13 c = search needs
-
-returns-7 : tie.Need-returns-7
-returns-7 c =
-    let a = c .before .before .before .before .before .before .before .before .before .before .before .before .before .before .before .before .before .before .before .before .before .before .before .before .before .before .before .before .before .before .before .before .before .before .before .before .before .before .args in
-    c .before .before .before .before .before .before .before .before .before .before .before .before .row-turn .ensures ∙ ap (λ (x : DeskTurn). deskLeftBy x (sheet (now (a .out)) 0)) (turn-asked (now (a .line)) (now (a .scratch)) _ _ (c .before .before .before .before .before .before .before .before .before .before .before .before .before .before .before .before .before .before .before .before .before .before .request-of .ensures) (c .before .before .before .before .before .before .before .before .before .before .before .before .before .before .before .before .before .before .before .before .before .before .before .before .before .before .before .before .before .if1 .left) (deskFrom (now (a .states)) (now (a .owners)) (now (a .helpers)) (now (a .totals)) (now (a .ticks))) (c .before .before .before .before .before .before .before .before .before .before .before .before .before .before .before .before .before .before .before .before .before .before .before .before .before .before .before .before .if2 .left) (c .before .before .before .before .before .before .before .before .before .before .before .before .before .before .before .before .before .before .before .before .before .before .before .before .before .before .before .if3 .left) (c .before .before .before .before .before .before .before .before .before .before .before .before .before .before .before .before .before .before .before .before .before .before .before .before .before .before .if4 .left) (c .before .before .before .before .before .before .before .before .before .before .before .before .before .before .before .before .before .before .before .before .before .before .before .before .before .if5 .left) (c .before .before .before .before .before .before .before .before .before .before .before .before .before .before .before .before .before .before .before .before .before .before .before .before .if6 .left))
+returns-3 : tie.Need-returns-3
+returns-3 c =
+    let a = c .before .before .before .before .before .before .before .before .before .before .before .before .before .before .before .args in
+    desk-left-same refl (c .before .before .say-refusal .ensures) ∙ ap (λ (x : DeskTurn). deskLeftBy x (sheet (now (a .out)) 0)) (turn-unsized (now (a .line)) (length (now (a .scratch))) (deskFrom (now (a .states)) (now (a .owners)) (now (a .helpers)) (now (a .totals)) (now (a .ticks))) (c .before .before .before .before .before .before .if1 .left) (sym (c .before .before .before .before .before .sized .ensures) ∙ c .before .before .before .before .if2 .left))
 
 pub answer-line-spec : {M : Type 1} → statement M
 answer-line-spec =
@@ -118,28 +78,17 @@ answer-line-spec =
     put-text-requires
     same-length
     returns
-    say-refusal-requires
-    same-length-2
-    returns-2
-    say-refusal-requires-2
-    same-length-3
-    returns-3
-    say-refusal-requires-3
-    same-length-4
-    returns-4
-    say-refusal-requires-4
-    same-length-5
-    returns-5
-    say-refusal-requires-5
-    same-length-6
-    returns-6
+    sized-requires
     request-of-requires
     row-turn-requires
+    same-length-2
+    same-length-3
+    same-length-4
+    same-length-5
+    same-length-6
     same-length-7
     same-length-8
+    returns-2
+    say-refusal-requires
     same-length-9
-    same-length-10
-    same-length-11
-    same-length-12
-    same-length-13
-    returns-7)
+    returns-3)

@@ -1,7 +1,5 @@
-use mathlib.Core.Path.{ap}
 use borrow.Author.Needs.{needs}
-use Rattle.circuits.specs.Circuits.{calledBy}
-use Rattle.circuits.proofs.Refused.{valued-call}
+use Rattle.circuits.proofs.Refused.{written-call}
 use Rattle.circuits.proofs.Small.{act-fits}
 use Rattle.circuits.proofs.llachurep_act.Statement.{statement}
 use Rattle.circuits.proofs.llachurep_act.Tie as tie
@@ -10,7 +8,7 @@ act-requires : tie.Need-act-requires
 act-requires c κs = search needs
 
 written-requires : tie.Need-written-requires
-written-requires c κs = act-fits _ _ _ _ _ (λ i. c .before .before .before .before .before .before .before .before .before .before .before .shared-slice-known3 .given i .fits) (c .before .before .before .before .before .before .act .ensures)
+written-requires c κs = search needs
 
 same-length : tie.Need-same-length
 same-length c = search needs
@@ -22,9 +20,7 @@ same-length-3 : tie.Need-same-length-3
 same-length-3 c = search needs
 
 returns : tie.Need-returns
-returns c = valued-call (c .written .ensures) (ap calledBy (c .before .before .before .before .before .before .before .act .ensures))
+returns c = written-call _ (c .written .ensures) (c .before .before .before .before .before .before .before .act .ensures) (act-fits _ _ _ _ _ (λ i. c .before .before .before .before .before .before .before .before .before .before .before .before .shared-slice-known3 .given i .fits))
 
 pub llachurep-act-spec : {M : Type 1} → statement M
-llachurep-act-spec =
-    tie.close
-    (tie.spec act-requires written-requires same-length same-length-2 same-length-3 returns)
+llachurep-act-spec = tie.close (tie.spec act-requires written-requires same-length same-length-2 same-length-3 returns)

@@ -1,7 +1,5 @@
-use mathlib.Core.Path.{ap}
 use borrow.Author.Needs.{needs}
-use Rattle.circuits.specs.Circuits.{calledBy}
-use Rattle.circuits.proofs.Refused.{valued-call}
+use Rattle.circuits.proofs.Refused.{written-call}
 use Rattle.circuits.proofs.Small.{desk-fits}
 use Rattle.circuits.proofs.llachurep_block.Statement.{statement}
 use Rattle.circuits.proofs.llachurep_block.Tie as tie
@@ -10,7 +8,7 @@ desk-call-requires : tie.Need-desk-call-requires
 desk-call-requires c κs = search needs
 
 written-requires : tie.Need-written-requires
-written-requires c κs = desk-fits _ _ _ _ _ (c .before .before .before .before .before .before .desk-call .ensures)
+written-requires c κs = search needs
 
 same-length : tie.Need-same-length
 same-length c = search needs
@@ -22,9 +20,7 @@ same-length-3 : tie.Need-same-length-3
 same-length-3 c = search needs
 
 returns : tie.Need-returns
-returns c = valued-call (c .written .ensures) (ap calledBy (c .before .before .before .before .before .before .before .desk-call .ensures))
+returns c = written-call _ (c .written .ensures) (c .before .before .before .before .before .before .before .desk-call .ensures) (desk-fits _ _ _ _ _)
 
 pub llachurep-block-spec : {M : Type 1} → statement M
-llachurep-block-spec =
-    tie.close
-    (tie.spec desk-call-requires written-requires same-length same-length-2 same-length-3 returns)
+llachurep-block-spec = tie.close (tie.spec desk-call-requires written-requires same-length same-length-2 same-length-3 returns)

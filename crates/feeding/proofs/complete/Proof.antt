@@ -2,7 +2,7 @@ use mathlib.Core.Path.{sym}
 use denote.Ref.{now}
 use lib.Seq.{length-take-le}
 use Rattle.day.specs.Day.{day}
-use Rattle.feeding.proofs.Told.{come, come-span-count, come-span, come-entry-count, come-head, come-body, come-done, come-bad}
+use Rattle.machine.proofs.Told.{come, come-span-count, come-span, come-entry-count, come-head, come-body, come-done, come-bad}
 use borrow.Author.Needs.{needs}
 use Rattle.feeding.proofs.complete.Statement.{statement}
 use Rattle.feeding.proofs.complete.Tie as tie

@@ -8,8 +8,8 @@ use borrow.Author.Needs.{needs}
 use lib.ListN.{length, drop}
 use Rattle.day.specs.Day.{day}
 use Rattle.day.proofs.Told.{sized-true}
-use Rattle.feeding.specs.Machine.{machineOf, feedOf, bufferAfter, Ready}
-use Rattle.feeding.proofs.Told.{fits-ready, feed-unsized, feed-unfit, feed-all, feed-next, feed-done, stored-next, stored-done}
+use Rattle.machine.specs.Machine.{machineOf, feedOf, bufferAfter, Ready}
+use Rattle.machine.proofs.Told.{fits-ready, feed-unsized, feed-unfit, feed-all, feed-next, feed-done, stored-next, stored-done}
 use Rattle.feeding.proofs.feed.Statement.{statement}
 use Rattle.feeding.proofs.feed.Tie as tie
 

@@ -1,8 +1,8 @@
 use mathlib.Core.Path.{_≡_, _∙_}
 use mathlib.Core.Bool.{false}
 use lib.Dec.{eqb, leb}
-use Rattle.feeding.specs.Machine.{fitsBy}
-use Rattle.feeding.proofs.Told.{fits-by}
+use Rattle.machine.specs.Machine.{fitsBy}
+use Rattle.machine.proofs.Told.{fits-by}
 use Rattle.octets.proofs.Tests.{tests}
 use borrow.Author.Needs.{needs}
 use Rattle.feeding.proofs.ready.Statement.{statement}

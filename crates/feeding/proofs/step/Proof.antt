@@ -5,7 +5,7 @@ use lib.ListN.{length, length-set}
 use Prim.Native.Nat.{_+_, _<_}
 use Rattle.book.specs.Awaits.{wantOf}
 use Rattle.day.specs.Day.{day}
-use Rattle.feeding.proofs.Told.{ready-at, bad-ready, step-none, step-kept, kept-ready, step-come, come-ready, stored-none, stored-one}
+use Rattle.machine.proofs.Told.{ready-at, bad-ready, step-none, step-kept, kept-ready, step-come, come-ready, stored-none, stored-one}
 use borrow.Author.Needs.{needs}
 use Rattle.feeding.proofs.step.Statement.{statement}
 use Rattle.feeding.proofs.step.Tie as tie

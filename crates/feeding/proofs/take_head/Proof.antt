@@ -1,7 +1,7 @@
 use native.Mathlib.Omega.{arith}
 use denote.Ref.{now}
 use Rattle.day.specs.Day.{day}
-use Rattle.feeding.proofs.Told.{head-long, head-none, head-body}
+use Rattle.machine.proofs.Told.{head-long, head-none, head-body}
 use borrow.Author.Needs.{needs}
 use Rattle.feeding.proofs.take_head.Statement.{statement}
 use Rattle.feeding.proofs.take_head.Tie as tie

@@ -2,7 +2,7 @@ use mathlib.Core.Path.{sym, _∙_}
 use native.Mathlib.Omega.{arith}
 use denote.Ref.{now}
 use Rattle.book.proofs.Spans.{span-passed}
-use Rattle.feeding.proofs.Told.{span-refused, span-owned}
+use Rattle.machine.proofs.Told.{span-refused, span-owned}
 use borrow.Author.Needs.{needs}
 use Rattle.feeding.proofs.take_span.Statement.{statement}
 use Rattle.feeding.proofs.take_span.Tie as tie

@@ -1,8 +1,7 @@
 use Rattle.octets.proofs.Filled.{sets-filled}
 use mathlib.Core.List.{[], _∷_}
-use Rattle.llachurep.specs.Boundary.{given}
+use Rattle.boundary.specs.Boundary.{given}
 use borrow.Author.Tests.{lt-ltb, le-ltb}
-use native.Mathlib.Omega.{arith}
 use denote.Ref.{now}
 use mathlib.Core.Path.{ap}
 use Prim.Native.Nat.{ℕ}
@@ -11,7 +10,7 @@ use Rattle.llachurep.proofs.give_stretch.Statement.{statement}
 use Rattle.llachurep.proofs.give_stretch.Tie as tie
 
 refusal-requires : tie.Need-refusal-requires
-refusal-requires c κs = omega arith
+refusal-requires c κs = search needs
 
 returns : tie.Need-returns
 returns c = rw (lt-ltb _ _ (c .before .if1 .taken)) (ap (λ (v : ℕ). given v (now (c .before .before .before .args .stretch))) (c .refusal .ensures))

@@ -1,6 +1,6 @@
-use Rattle.llachurep.proofs.Gives.{valued, find-refused, find-given}
+use Rattle.boundary.proofs.Gives.{refusal-given}
+use Rattle.llachurep.proofs.Gives.{find-refused, find-given}
 use Rattle.finding.specs.Told.{locatedTold}
-use Rattle.llachurep.specs.Boundary.{given}
 use Rattle.finding.proofs.Places.{find-places-within}
 use native.Mathlib.Omega.{arith}
 use denote.Ref.{now}
@@ -28,7 +28,7 @@ enum-known-n : tie.Need-enum-known-n
 enum-known-n c = search needs
 
 refusal-requires : tie.Need-refusal-requires
-refusal-requires c κs = let a = c .before .before .before .before .before .before .before .args in omega (arith, find-places-within (now (a .message)) (now (a .defaults)) (a .name) _ _ (sym (c .before .before .before .locate .ensures) ∙ ap locatedTold (c .before .n .given .1)))
+refusal-requires c κs = search needs
 
 same-length : tie.Need-same-length
 same-length c = search needs
@@ -43,7 +43,7 @@ returns-2 : tie.Need-returns-2
 returns-2 c = c .before .before .give-stretch2 .ensures ∙ find-given (now (c .before .before .before .before .before .before .before .before .before .before .before .args .message)) (now (c .before .before .before .before .before .before .before .before .before .before .before .args .defaults)) (c .before .before .before .before .before .before .before .before .before .before .before .args .name) (now (c .before .before .before .before .before .before .before .before .before .before .before .args .stretch)) _ (sym (c .before .before .before .before .before .before .before .locate .ensures) ∙ ap locatedTold (c .before .before .before .before .before .at2 .given .1))
 
 returns-3 : tie.Need-returns-3
-returns-3 c = valued (c .refusal .ensures) (find-refused (now (c .before .before .before .before .before .before .before .before .args .message)) (now (c .before .before .before .before .before .before .before .before .args .defaults)) (c .before .before .before .before .before .before .before .before .args .name) (now (c .before .before .before .before .before .before .before .before .args .stretch)) _ _ (sym (c .before .before .before .before .locate .ensures) ∙ ap locatedTold (c .before .before .n .given .1)))
+returns-3 c = refusal-given _ _ (c .refusal .ensures) (let a = c .before .before .before .before .before .before .before .before .args in omega (arith, find-places-within (now (a .message)) (now (a .defaults)) (a .name) _ _ (sym (c .before .before .before .before .locate .ensures) ∙ ap locatedTold (c .before .before .n .given .1)))) (find-refused (now (c .before .before .before .before .before .before .before .before .args .message)) (now (c .before .before .before .before .before .before .before .before .args .defaults)) (c .before .before .before .before .before .before .before .before .args .name) (now (c .before .before .before .before .before .before .before .before .args .stretch)) _ _ (sym (c .before .before .before .before .locate .ensures) ∙ ap locatedTold (c .before .before .n .given .1)))
 
 pub llachurep-find-spec : {M : Type 1} → statement M
 llachurep-find-spec =

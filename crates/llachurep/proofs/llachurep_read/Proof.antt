@@ -1,10 +1,11 @@
-use Rattle.llachurep.proofs.Gives.{valued, read-refused, read-no-room, read-given}
+use Rattle.boundary.proofs.Gives.{valued, refusal-given}
+use Rattle.llachurep.proofs.Gives.{read-refused, read-no-room, read-given}
 use Rattle.isup.specs.Told.{readingTold}
 use Rattle.isup.proofs.Places.{read-places-within}
 use native.Mathlib.Omega.{arith}
 use mathlib.Core.List.{List}
 use Rattle.llachurep.proofs.Small.{read-small}
-use Rattle.llachurep.specs.Boundary.{given}
+use Rattle.boundary.specs.Boundary.{given}
 use denote.Ref.{now}
 use mathlib.Core.Path.{sym, _∙_, ap}
 use Prim.Native.Nat.{ℕ}
@@ -19,13 +20,13 @@ enum-known-n : tie.Need-enum-known-n
 enum-known-n c = search needs
 
 refusal-requires : tie.Need-refusal-requires
-refusal-requires c κs = omega (arith, read-places-within (now (c .before .before .before .before .before .before .args .message)) _ _ (sym (c .before .before .before .read .ensures) ∙ ap readingTold (c .before .n .given .1)) .1)
+refusal-requires c κs = search needs
 
 enum-known-x : tie.Need-enum-known-x
 enum-known-x c = search needs
 
 refusal-requires-2 : tie.Need-refusal-requires-2
-refusal-requires-2 c κs = omega arith
+refusal-requires-2 c κs = search needs
 
 returns : tie.Need-returns
 returns c = valued (c .refusal2 .ensures) (read-no-room (now (c .before .before .before .before .before .before .before .before .args .message)) (now (c .before .before .before .before .before .before .before .before .args .parts)) _ (sym (c .before .before .before .before .before .read .ensures) ∙ ap readingTold (c .before .before .before .x .given .1)) (c .before .if1 .taken))
@@ -34,7 +35,7 @@ put-values-requires : tie.Need-put-values-requires
 put-values-requires c κs = (read-small (now (c .before .before .before .before .before .before .before .before .args .message)) _ (sym (c .before .before .before .before .before .read .ensures) ∙ ap readingTold (c .before .before .before .x .given .1)), c .before .if1 .left)
 
 returns-2 : tie.Need-returns-2
-returns-2 c = valued (c .refusal .ensures) (read-refused (now (c .before .before .before .before .before .before .before .args .message)) (now (c .before .before .before .before .before .before .before .args .parts)) _ _ (sym (c .before .before .before .before .read .ensures) ∙ ap readingTold (c .before .before .n .given .1)))
+returns-2 c = refusal-given _ _ (c .refusal .ensures) (omega (arith, read-places-within (now (c .before .before .before .before .before .before .before .args .message)) _ _ (sym (c .before .before .before .before .read .ensures) ∙ ap readingTold (c .before .before .n .given .1)) .1)) (read-refused (now (c .before .before .before .before .before .before .before .args .message)) (now (c .before .before .before .before .before .before .before .args .parts)) _ _ (sym (c .before .before .before .before .read .ensures) ∙ ap readingTold (c .before .before .n .given .1)))
 
 same-length : tie.Need-same-length
 same-length c = search needs

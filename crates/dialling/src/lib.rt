@@ -1,0 +1,1 @@
+// A called party number written: definitions and theorems alone.

@@ -1,0 +1,3 @@
+pub mod Spans
+pub mod Overlap
+pub mod Told

@@ -1,0 +1,27 @@
+use borrow.Author.Tests.{eq-eqb}
+use mathlib.Core.Path.{refl}
+use Rattle.octets.proofs.Tests.{tests}
+use native.Mathlib.Omega.{arith}
+use denote.Ref.{now}
+use borrow.Author.Needs.{needs}
+use Rattle.surveys.proofs.Looks.{past-owners}
+use Rattle.prospects.proofs.mine.Statement.{statement}
+use Rattle.prospects.proofs.mine.Tie as tie
+
+returns : tie.Need-returns
+returns c = rw (eq-eqb (c .before .args .sender) 0 (c .if1 .taken)) refl
+
+returns-2 : tie.Need-returns-2
+returns-2 c = let a = c .before .before .args in past-owners (now (a .table)) (a .sender) (a .circuit) (c .before .if1 .left) (c .if2 .taken)
+
+shared-slice-read-result : tie.Need-shared-slice-read-result
+shared-slice-read-result c = search needs
+
+cast-result : tie.Need-cast-result
+cast-result c = omega (arith, c .shared-slice-known .given (c .before .before .before .args .circuit))
+
+returns-3 : tie.Need-returns-3
+returns-3 c = search tests
+
+pub mine-spec : {M : Type 1} → statement M
+mine-spec = tie.close (tie.spec returns returns-2 shared-slice-read-result cast-result returns-3)

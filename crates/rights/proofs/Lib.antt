@@ -1,0 +1,4 @@
+pub mod Searches
+pub mod Meaning
+pub mod Given
+pub mod Judged

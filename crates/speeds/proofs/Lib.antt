@@ -1,0 +1,3 @@
+pub mod Speeds
+pub mod Spoken
+pub mod Refused

@@ -1,0 +1,4 @@
+pub mod Turned
+pub mod Determined
+pub mod Kept
+pub mod Fits
