@@ -78,7 +78,7 @@ marks-of-33 m x f k many =
     acts y g = inr (inr (inr (inr (inr (inr (inl (g .kind ∙ sym (f .kind) ∙ k)))))))
 
 -- ---- what is granted, from what is looked at
-grant-so : (T : Tables) (sender : ℕ) (m : List ℕ) (room : ℕ) (a : Ask) → length (T .states) ≡ 4096 → length (T .owners) ≡ 4096 → length (T .helpers) ≡ 4096 → askOf m ≡ accepted a
+pub grant-so : (T : Tables) (sender : ℕ) (m : List ℕ) (room : ℕ) (a : Ask) → length (T .states) ≡ 4096 → length (T .owners) ≡ 4096 → length (T .helpers) ≡ 4096 → askOf m ≡ accepted a
     → isFound (firstForeign (T .owners) (T .helpers) sender (a .circuit) (a .range + 1)) ≡ false → isUnhelpable T sender a ≡ false
     → isFound (firstIllegal (T .states) (a .circuit) (a .range + 1)) ≡ false → isTaken (T .states) (a .act) (a .circuit) ≡ false → length (replyOf (T .states) m a) ≤ room
     → grantOf T sender m room ≡ accepted a
@@ -89,7 +89,7 @@ grant-so T sender m room a p q w e f u l t r =
     ∙ (rw (f, u, l, t) (rw (le-ltb _ _ r) refl))
 
 -- what a call leaves where it is granted
-board-granted : (T : Tables) (totals : List ℕ) (sender : ℕ) (m b : List ℕ) (a : Ask) → length totals ≡ 64 → askOf m ≡ accepted a → grantOf T sender m (length b) ≡ accepted a
+pub board-granted : (T : Tables) (totals : List ℕ) (sender : ℕ) (m b : List ℕ) (a : Ask) → length totals ≡ 64 → askOf m ≡ accepted a → grantOf T sender m (length b) ≡ accepted a
     → boardOf T totals sender m b ≡ boardAfter (accepted (length (replyOf (T .states) m a))) (rowsAfter m a (T .states)) (recounted (rowsAfter m a (T .states)) (a .circuit) (a .circuit + a .range) totals) (filled (replyOf (T .states) m a) b)
 unfolding boardOf actOf
 board-granted T totals sender m b a n q g =

@@ -5,3 +5,4 @@ pub mod Pairs
 pub mod Touching
 pub mod Laws
 pub mod Refutations
+pub mod Instances

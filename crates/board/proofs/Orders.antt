@@ -63,7 +63,7 @@ module _ (owners helpers : List ℕ) where
   totals-left a buffer s true e = ap (λ (x : BoardAfter). x .totals) (kept-is a buffer s) ∙ rw e refl
   totals-left a buffer s false e = ap (λ (x : BoardAfter). x .totals) (kept-is a buffer s) ∙ rw e refl
 
-  rows-length : (a : Event) (buffer : List ℕ) (s : Standings) → length (keptBy owners helpers a buffer s .states) ≡ length (s .rows)
+  pub rows-length : (a : Event) (buffer : List ℕ) (s : Standings) → length (keptBy owners helpers a buffer s .states) ≡ length (s .rows)
   rows-length a buffer s = go (eqb (length (s .totals)) 64) refl
     where
       go : (t : Bool) → eqb (length (s .totals)) 64 ≡ t → length (keptBy owners helpers a buffer s .states) ≡ length (s .rows)

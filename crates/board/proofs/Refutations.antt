@@ -52,9 +52,13 @@ pub stepped-refuted : (T : Tables) (totals : List ℕ) (sender : ℕ) (m buffer 
 stepped-refuted T totals sender m buffer n e c w wrong s = wrong (sym s ∙ named-totals-right T totals sender m buffer n e c w)
 
 -- ---- two calls on one circuit: the order matters, so the condition of `calls-commute` is needed
+-- every circuit idle but for circuit 0, which has that row; the totals count the busy ones where it is 0 or 1
+abbrev pub standing : ℕ → Standings
+standing first = record { rows = rows first; totals = first ∷ replicate 63 0 }
+
 -- the rows and the totals, all 0
-abbrev allIdle : Standings
-allIdle = record { rows = rows 0; totals = replicate 64 0 }
+abbrev pub allIdle : Standings
+allIdle = standing 0
 
 -- a helper's BLO and the owner's IAM on circuit 0: after the BLO the IAM has another answer
 pub touching-matters : board (owned 2) (owned 1) .answer (seizedBy 2) (board (owned 2) (owned 1) .after helperBlocks allIdle) ≡ board (owned 2) (owned 1) .answer (seizedBy 2) allIdle → ⊥
