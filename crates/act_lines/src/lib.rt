@@ -1,7 +1,5 @@
 // What the desk answers to the hub's request (act), and what it leaves in the tables.
 ghost use mathlib.Core.Path.{_≡_};
-ghost use Prim.Native.Nat.{ℕ, _≤_};
-ghost use Rattle.octets.specs.Answer.{refused};
 ghost use Rattle.octets.specs.Told.{writtenTold};
 ghost use Rattle.printing.specs.Sheet.{sheet, pour};
 ghost use Rattle.requests.specs.Along.{saidIn};
@@ -12,12 +10,11 @@ use requests::Request;
 
 // What the hub answered, its octets at the front of a buffer; or the refusal with the reader's octet.
 fn say_acted(acted: Written, buffer: &[u8], out: &mut [u8]) -> usize
-    requires { ⌜ ((n at : ℕ) → writtenTold acted ≡ refused n at → at ≤ 65535) ⌝ }
     ensures { λ r. ⌜ sheet (now (out .exit)) r ≡ pour (sheet (now (out .entry)) 0) (replyLine (writtenTold acted) (now (buffer .entry))) ⌝ }
 {
     match acted {
         Written::Octets(n) => sayings::put_shown(b"answer ", pieces::stretch(buffer, 0, n), out, 0),
-        Written::Refused(n, at) => sayings::say_fault(n, at as u32, out),
+        Written::Refused(n, at) => sayings::say_fault(n, at, out),
     }
 }
 

@@ -1,15 +1,12 @@
 // What the desk answers to BICC's requests: bicc-shape, bicc-read, bicc-write, bicc-compact.
 ghost use mathlib.Core.Path.{_≡_};
-ghost use Prim.Native.Nat.{ℕ, _≤_};
-ghost use Rattle.octets.specs.Answer.{refused};
-ghost use Rattle.octets.specs.Told.{writtenTold};
 ghost use Rattle.bicc.specs.Read.{callReadOf};
 ghost use Rattle.bicc.specs.Told.{callTold};
 ghost use Rattle.bicc.specs.Write.{callWriteOf, callCompactOf};
 ghost use Rattle.printing.specs.Sheet.{sheet, pour};
 ghost use Rattle.requests.specs.Words.{numberAt, octetsAt};
 ghost use Rattle.requests.specs.Along.{saidIn};
-ghost use Rattle.lines.specs.Lines.{octetsLine, againLine, compactLine, lent};
+ghost use Rattle.lines.specs.Lines.{octetsLine, compactLine, lent};
 ghost use Rattle.bicc_lines.specs.Bicc.{codeLine, biccLine};
 use bicc::Message;
 use bicc::Reading;
@@ -17,7 +14,6 @@ use fields::Field;
 use forms::BICC_READ;
 use forms::BICC_SHAPE;
 use forms::BICC_WRITE;
-use octets::Written;
 use requests::Request;
 
 // What a message says that reads so.
@@ -25,7 +21,7 @@ fn say_message(message: &[u8], x: Message, out: &mut [u8]) -> usize
     ensures { λ r. ⌜ sheet (now (out .exit)) r ≡ pour (sheet (now (out .entry)) 0) (codeLine (now (message .entry)) (callTold (Reading.Read x))) ⌝ }
 {
     let parts = x.parts;
-    let code = sayings::put_count(b"code ", x.code, out, 0);
+    let code = sayings::put_count(b"code ", x.code as usize, out, 0);
     let kind = sayings::put_shown(b" type ", &[x.kind], out, code);
     message_lines::put_parts(message, parts, out, kind)
 }
@@ -35,7 +31,7 @@ fn say_read(message: &[u8], out: &mut [u8]) -> usize
     ensures { λ r. ⌜ sheet (now (out .exit)) r ≡ pour (sheet (now (out .entry)) 0) (codeLine (now (message .entry)) (callReadOf (now (message .entry)))) ⌝ }
 {
     match bicc_codec::read(message) {
-        Reading::Refused(n, at) => sayings::say_fault(n, at as u32, out),
+        Reading::Refused(n, at) => sayings::say_fault(n, at, out),
         Reading::Read(x) => say_message(message, x, out),
     }
 }
@@ -69,19 +65,6 @@ fn say_write(fields: [Field; 8], octets: &[u8], out: &mut [u8]) -> usize
     sayings::say_written(written, buffer, out)
 }
 
-// What was written again to the front of a buffer, or the reader's refusal with its octet.
-fn say_again(written: Written, buffer: &[u8], out: &mut [u8]) -> usize
-    requires { ⌜ ((n at : ℕ) → writtenTold written ≡ refused n at → at ≤ 65535) ⌝ }
-    ensures { λ r. ⌜ sheet (now (out .exit)) r ≡ pour (sheet (now (out .entry)) 0) (againLine (writtenTold written) (now (buffer .entry))) ⌝ }
-{
-    match written {
-        Written::Octets(n) => {
-            sayings::put_shown(b"octets ", pieces::stretch(buffer, 0, n), out, 0)
-        }
-        Written::Refused(n, at) => sayings::say_fault(n, at as u32, out),
-    }
-}
-
 // Writes a message again, and says what was written.
 fn say_compact(fields: [Field; 8], octets: &[u8], out: &mut [u8]) -> usize
     ensures { λ r. ⌜ sheet (now (out .exit)) r ≡ pour (sheet (now (out .entry)) 0)
@@ -95,7 +78,7 @@ fn say_compact(fields: [Field; 8], octets: &[u8], out: &mut [u8]) -> usize
         pieces::stretch(octets, message.from, message.count as usize),
         buffer,
     );
-    say_again(written, buffer, out)
+    sayings::say_again(written, buffer, out)
 }
 
 // Puts the answer's line to one of BICC's requests at the front of `out`, and answers the next place. What `out` has no room for is left out.

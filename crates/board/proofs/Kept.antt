@@ -14,7 +14,7 @@ use Rattle.octets.specs.Answer.{Answer, accepted, refused}
 use Rattle.octets.specs.Told.{writtenTold}
 use Rattle.octets.specs.declared.Written.{Written}
 use Rattle.octets.specs.declared.Written.the-variants.{Octets, Refused}
-use Rattle.octets.proofs.Answer.{accepted-same, refused-same, refused-accepted}
+use Rattle.octets.proofs.Answer.{accepted-same, refused-accepted}
 use Rattle.octets.proofs.Told.{written-told-injective}
 use Rattle.totals.specs.Blocks.{blockCount, Right, AllRight, recounted}
 use native.Mathlib.Decide.{decLt}
@@ -30,7 +30,6 @@ use Rattle.hub.specs.Desk.{deskOf}
 use Rattle.rights.specs.Names.{Names}
 use Rattle.hub.specs.Deeds.{Deed, deed, Handling, handling, withCircuits, handledOf, handledTold, unspanned}
 use Rattle.hub.proofs.Called.{call-accepted, act-keeps, buffer-length, untouched}
-use Rattle.hub.proofs.Places.{act-places-within}
 use Rattle.hub.proofs.Desk.{desk-keeps, desk-called, desk-buffer-length, desk-untouched}
 use Rattle.hub.proofs.Deeds.{forget}
 use Rattle.board.specs.Board.{BoardAfter, boardAfter, totalsAfter, keeping, boardOf, alone, deskBoardOf}
@@ -107,15 +106,6 @@ module _ (T : Tables) (totals : List ℕ) (sender : ℕ) (m buffer : List ℕ) w
           never (accepted a) = refl
           never (refused k place) = refl
       go false r g k h = (refl, refl, refl)
-
-  -- the octet that a refusal is about
-  pub board-places-within : (n at : ℕ) → boardOf T totals sender m buffer .answer ≡ refused n at → at ≤ 268
-  unfolding boardOf
-  board-places-within n at e = go (eqb (length totals) 64) (actOf T sender m buffer) (act-places-within T sender m buffer n at) e
-    where
-      go : (t : Bool) (r : After) → (r .answer ≡ refused n at → at ≤ 268) → (if t then boardAfter (r .answer) (r .states) (totalsAfter (r .states) (withCircuits (askOf m) (r .answer)) totals) (r .buffer) else boardAfter (refused 16 0) (T .states) totals buffer) .answer ≡ refused n at → at ≤ 268
-      go true r k h = k h
-      go false r k h = let s = refused-same {A = ℕ} h in omega (arith, s .1)
 
   -- the answer buffer keeps its length
   pub board-buffer-length : length (boardOf T totals sender m buffer .buffer) ≡ length buffer

@@ -1,7 +1,6 @@
 // What the desk answers to the requests about how many circuits are busy (busy, totals, total, rebuild), and what they leave in the totals.
 ghost use mathlib.Core.Path.{_≡_};
 ghost use mathlib.Core.List.{[]};
-ghost use Prim.Native.Nat.{_≤_};
 ghost use lib.ListN.{set};
 ghost use Rattle.totals.specs.Question.{busyBetween};
 ghost use Rattle.printing.specs.Sheet.{sheet, pour};
@@ -17,11 +16,10 @@ use totals::Count;
 
 // Puts a count with how many totals and rows were looked at for it, and answers the next place.
 fn say_count(count: Count, out: &mut [u8]) -> usize
-    requires { ⌜ (count .count ≤ 65535) × (count .looked ≤ 65535) ⌝ }
     ensures { λ r. ⌜ sheet (now (out .exit)) r ≡ pour (sheet (now (out .entry)) 0) (countLine count) ⌝ }
 {
-    let next = sayings::put_count(b"count ", count.count as u32, out, 0);
-    sayings::put_count(b" looked ", count.looked as u32, out, next)
+    let next = sayings::put_count(b"count ", count.count, out, 0);
+    sayings::put_count(b" looked ", count.looked, out, next)
 }
 
 // Asks how many of the circuits from the first to the last are busy, puts the count or the refusal, and answers the next place.

@@ -1,15 +1,12 @@
 // What the desk answers to the codec's requests: shape, read, write, compact, find.
 ghost use mathlib.Core.Path.{_≡_};
-ghost use Prim.Native.Nat.{ℕ, _≤_};
-ghost use Rattle.octets.specs.Answer.{refused};
-ghost use Rattle.octets.specs.Told.{writtenTold};
 ghost use Rattle.finding.specs.Find.{locateOf};
 ghost use Rattle.isup.specs.Write.{writeOf, compactOf};
 ghost use Rattle.finding.specs.Told.{locatedTold};
 ghost use Rattle.printing.specs.Sheet.{sheet, pour};
 ghost use Rattle.requests.specs.Words.{numberAt, octetsAt};
 ghost use Rattle.requests.specs.Along.{saidIn};
-ghost use Rattle.lines.specs.Lines.{octetsLine, againLine, compactLine, lent};
+ghost use Rattle.lines.specs.Lines.{octetsLine, compactLine, lent};
 ghost use Rattle.codec_lines.specs.Codec.{foundLine, codecLine};
 use fields::Field;
 use finding::Located;
@@ -17,7 +14,6 @@ use forms::COMPACT;
 use forms::READ;
 use forms::SHAPE;
 use forms::WRITE;
-use octets::Written;
 use requests::Request;
 
 // Writes a message by its fields, and says what was written.
@@ -49,19 +45,6 @@ fn say_write(fields: [Field; 8], octets: &[u8], out: &mut [u8]) -> usize
     sayings::say_written(written, buffer, out)
 }
 
-// What was written again to the front of a buffer, or the reader's refusal with its octet.
-fn say_again(written: Written, buffer: &[u8], out: &mut [u8]) -> usize
-    requires { ⌜ ((n at : ℕ) → writtenTold written ≡ refused n at → at ≤ 65535) ⌝ }
-    ensures { λ r. ⌜ sheet (now (out .exit)) r ≡ pour (sheet (now (out .entry)) 0) (againLine (writtenTold written) (now (buffer .entry))) ⌝ }
-{
-    match written {
-        Written::Octets(n) => {
-            sayings::put_shown(b"octets ", pieces::stretch(buffer, 0, n), out, 0)
-        }
-        Written::Refused(n, at) => sayings::say_fault(n, at as u32, out),
-    }
-}
-
 // Writes a message again, and says what was written.
 fn say_compact(fields: [Field; 8], octets: &[u8], out: &mut [u8]) -> usize
     ensures { λ r. ⌜ sheet (now (out .exit)) r ≡ pour (sheet (now (out .entry)) 0)
@@ -75,12 +58,11 @@ fn say_compact(fields: [Field; 8], octets: &[u8], out: &mut [u8]) -> usize
         pieces::stretch(octets, message.from, message.count as usize),
         buffer,
     );
-    say_again(written, buffer, out)
+    sayings::say_again(written, buffer, out)
 }
 
 // Says where a parameter was found, with its contents; or the refusal with the reader's octet.
 fn say_located(located: Located, message: &[u8], defaults: &[u8], out: &mut [u8]) -> usize
-    requires { ⌜ ((n at : ℕ) → locatedTold located ≡ refused n at → at ≤ 65535) ⌝ }
     ensures { λ r. ⌜ sheet (now (out .exit)) r ≡ pour (sheet (now (out .entry)) 0) (foundLine (now (message .entry)) (now (defaults .entry)) (locatedTold located)) ⌝ }
 {
     match located {
@@ -90,7 +72,7 @@ fn say_located(located: Located, message: &[u8], defaults: &[u8], out: &mut [u8]
         Located::Defaults(at, len) => {
             sayings::put_shown(b"defaults ", pieces::stretch(defaults, at, len), out, 0)
         }
-        Located::Refused(n, at) => sayings::say_fault(n, at as u32, out),
+        Located::Refused(n, at) => sayings::say_fault(n, at, out),
     }
 }
 

@@ -10,7 +10,7 @@ use Rattle.octets.proofs.Answer.{one-answer}
 use Rattle.printing.specs.Sheet.{Sheet, sheet, pour}
 use Rattle.printing.specs.Shown.{decimalOf, hexOf}
 use Rattle.printing.proofs.Pours.{sheet-one}
-use Rattle.lines.specs.Lines.{refusal, faultLine, writtenLine, blank}
+use Rattle.lines.specs.Lines.{refusal, faultLine, writtenLine, againLine, blank}
 
 -- two outcomes that are one sheet: the buffer and the next place
 pub sheet-determined : {s : Sheet} {left rest : List ℕ} {r q : ℕ} → sheet left r ≡ s → sheet rest q ≡ s → (left ≡ rest) × (r ≡ q)
@@ -47,3 +47,7 @@ say-fault-determined number place out = sheet-determined
 -- what was written
 pub say-written-determined : (written : Written) (buffer out : List ℕ) {left rest : List ℕ} {r q : ℕ} → sheet left r ≡ pour (sheet out 0) (writtenLine (writtenTold written) buffer) → sheet rest q ≡ pour (sheet out 0) (writtenLine (writtenTold written) buffer) → (left ≡ rest) × (r ≡ q)
 say-written-determined written buffer out = sheet-determined
+
+-- what was written again
+pub say-again-determined : (written : Written) (buffer out : List ℕ) {left rest : List ℕ} {r q : ℕ} → sheet left r ≡ pour (sheet out 0) (againLine (writtenTold written) buffer) → sheet rest q ≡ pour (sheet out 0) (againLine (writtenTold written) buffer) → (left ≡ rest) × (r ≡ q)
+say-again-determined written buffer out = sheet-determined

@@ -16,7 +16,6 @@ use Rattle.family.specs.declared.Offer.{Offer}
 use Rattle.family.specs.declared.Offer.the-variants.{Param as One, Done}
 use Rattle.family.specs.Family.{Family, readIn}
 use Rattle.family.specs.Steps.{offerBy, offerAt, pastBy, placeAfter, stepsFrom, startIn, GivesAll}
-use Rattle.family.proofs.Places.{read-places-within}
 use Rattle.family.proofs.Steps.{done-for-ever}
 use Rattle.cursor.specs.Start.{refusalBy}
 use Rattle.cursor.proofs.Taken.{refused-from-one}
@@ -74,11 +73,3 @@ begun-line F m = go (readIn F m) refl
     go : (x : Answer Parts) → readIn F m ≡ x → begunLine m (refusalBy x) (startIn F m) ≡ listBy m (startIn F m) x
     go (accepted p) e = refl
     go (refused n at) e = let ne : n ≡ 0 → ⊥ = λ z. omega (arith, refused-from-one F m n at e, z) in rw (ne-eqb n 0 ne) refl
-
--- the octet of the start's refusal is small
-pub refusal-place : (F : Family) (m : List ℕ) → F .most ≤ 65535 → refusalBy (readIn F m) .place ≤ 65535
-refusal-place F m h = go (readIn F m) refl
-  where
-    go : (x : Answer Parts) → readIn F m ≡ x → refusalBy x .place ≤ 65535
-    go (accepted p) e = omega arith
-    go (refused n at) e = omega (arith, read-places-within F m n at e .1)

@@ -1,6 +1,5 @@
 // What the desk answers to list, bicc-list and sccp-list: the optional parameters of a message, by the cursor's steps.
 ghost use mathlib.Core.Path.{_≡_};
-ghost use Prim.Native.Nat.{_≤_};
 ghost use lib.ListN.{length};
 ghost use Rattle.family.specs.Steps.{offerAt, stepsFrom};
 ghost use Rattle.isup.specs.Table.{isup};
@@ -57,13 +56,12 @@ fn say_steps(message: &[u8], start: usize, out: &mut [u8]) -> usize
 
 // Says what the start gives: the refusal with its octet, or the parameters.
 fn say_list(message: &[u8], refusal: Refusal, start: usize, out: &mut [u8]) -> usize
-    requires { ⌜ refusal .place ≤ 65535 ⌝ }
     ensures { λ r. ⌜ sheet (now (out .exit)) r ≡ pour (sheet (now (out .entry)) 0) (begunLine (now (message .entry)) refusal start) ⌝ }
 {
     if refusal.number == 0 {
         return say_steps(message, start, out);
     }
-    sayings::say_fault(refusal.number, refusal.place as u32, out)
+    sayings::say_fault(refusal.number, refusal.place, out)
 }
 
 // Lists an ISUP message.

@@ -37,7 +37,7 @@ fn say_message(message: &[u8], x: Message, out: &mut [u8]) -> usize
     ensures { λ r. ⌜ sheet (now (out .exit)) r ≡ pour (sheet (now (out .entry)) 0) (readLine (now (message .entry)) (readingTold (Reading.Read x))) ⌝ }
 {
     let parts = x.parts;
-    let circuit = sayings::put_count(b"circuit ", x.circuit as u32, out, 0);
+    let circuit = sayings::put_count(b"circuit ", x.circuit as usize, out, 0);
     let kind = sayings::put_shown(b" type ", &[x.kind], out, circuit);
     put_parts(message, parts, out, kind)
 }
@@ -47,7 +47,7 @@ pub fn say_read(message: &[u8], out: &mut [u8]) -> usize
     ensures { λ r. ⌜ sheet (now (out .exit)) r ≡ pour (sheet (now (out .entry)) 0) (readLine (now (message .entry)) (readOf (now (message .entry)))) ⌝ }
 {
     match isup_codec::read(message) {
-        Reading::Refused(n, at) => sayings::say_fault(n, at as u32, out),
+        Reading::Refused(n, at) => sayings::say_fault(n, at, out),
         Reading::Read(x) => say_message(message, x, out),
     }
 }

@@ -17,9 +17,9 @@ fn say_values(values: NumberRead, buffer: &[u8], out: &mut [u8]) -> usize
     match values {
         NumberRead::Refused(n) => sayings::say_refusal(n, out),
         NumberRead::Read(x) => {
-            let nature = sayings::put_count(b"nature ", x.nature as u32, out, 0);
-            let plan = sayings::put_count(b" plan ", x.plan as u32, out, nature);
-            let internal = sayings::put_count(b" internal ", x.internal as u32, out, plan);
+            let nature = sayings::put_count(b"nature ", x.nature as usize, out, 0);
+            let plan = sayings::put_count(b" plan ", x.plan as usize, out, nature);
+            let internal = sayings::put_count(b" internal ", x.internal as usize, out, plan);
             sayings::put_shown(
                 b" signals ",
                 pieces::stretch(buffer, 0, x.count),

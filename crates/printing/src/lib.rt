@@ -29,7 +29,7 @@ pub fn put_text(text: &[u8], out: &mut [u8], at: usize) -> usize
 }
 
 // Puts the last `places` decimal digits of a number, with no zeros before it, and answers the next place.
-fn put_digits(places: u8, number: u32, out: &mut [u8], at: usize) -> usize
+fn put_digits(places: u8, number: usize, out: &mut [u8], at: usize) -> usize
     ensures { λ r. ⌜ sheet (now (out .exit)) r ≡ pour (sheet (now (out .entry)) at) (decimalIn places number) ⌝ }
 {
     if places == 0 {
@@ -43,7 +43,7 @@ fn put_digits(places: u8, number: u32, out: &mut [u8], at: usize) -> usize
 }
 
 // Puts a number in decimal digits, and answers the next place.
-pub fn put_number(number: u32, out: &mut [u8], at: usize) -> usize
+pub fn put_number(number: usize, out: &mut [u8], at: usize) -> usize
     ensures { λ r. ⌜ sheet (now (out .exit)) r ≡ pour (sheet (now (out .entry)) at) (decimalOf number) ⌝ }
 {
     put_digits(10, number, out, at)

@@ -42,7 +42,7 @@ fn rows_of(states: &[u8], first: usize, range: usize) -> &[u8] {
 // Puts a refusal's number, and answers the next place.
 fn put_refusal(number: u8, line: &mut [u8], at: usize) -> usize {
     let next = printing::put_text(b" refused ", line, at);
-    printing::put_number(number as u32, line, next)
+    printing::put_number(number as usize, line, next)
 }
 
 // Puts a refusal's number and the octet that a reader's number from 3 to 8 is about; answers the next place.
@@ -55,7 +55,7 @@ fn put_fault(number: u8, place: usize, line: &mut [u8], at: usize) -> usize {
         return next;
     }
     let word = printing::put_text(b" at ", line, next);
-    printing::put_number(number_of(place), line, word)
+    printing::put_number(place, line, word)
 }
 
 // Puts octets after a word, and answers the next place.
@@ -70,7 +70,7 @@ fn put_rows(message: &[u8], states: &[u8], line: &mut [u8], at: usize) -> usize 
         Verdict::Refused(n, place) => put_fault(n, place, line, at),
         Verdict::Granted(ask) => {
             let first = printing::put_text(b" first circuit ", line, at);
-            let rows = printing::put_number(number_of(ask.circuit), line, first);
+            let rows = printing::put_number(ask.circuit, line, first);
             put_shown(
                 b" rows ",
                 rows_of(states, ask.circuit, ask.range),
@@ -79,14 +79,6 @@ fn put_rows(message: &[u8], states: &[u8], line: &mut [u8], at: usize) -> usize 
             )
         }
     }
-}
-
-// A circuit or an octet's place as a number to be shown: neither is above 4095.
-fn number_of(count: usize) -> u32 {
-    if 4095 < count {
-        return 4095;
-    }
-    count as u32
 }
 
 // Puts what the hub makes of a message, every row 0 before, every circuit the sender's and nobody's help; answers the next place.

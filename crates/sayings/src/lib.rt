@@ -5,11 +5,11 @@ ghost use Rattle.octets.specs.Octet.{octets};
 ghost use Rattle.octets.specs.Told.{writtenTold};
 ghost use Rattle.printing.specs.Sheet.{sheet, pour};
 ghost use Rattle.printing.specs.Shown.{decimalOf, hexOf};
-ghost use Rattle.lines.specs.Lines.{refusal, faultLine, writtenLine};
+ghost use Rattle.lines.specs.Lines.{refusal, faultLine, writtenLine, againLine};
 use octets::Written;
 
 // Puts a word with a number after it, and answers the next place.
-pub fn put_count(word: &[u8], number: u32, out: &mut [u8], at: usize) -> usize
+pub fn put_count(word: &[u8], number: usize, out: &mut [u8], at: usize) -> usize
     ensures { λ r. ⌜ sheet (now (out .exit)) r ≡ pour (sheet (now (out .entry)) at) (now (word .entry) ++ decimalOf number) ⌝ }
 {
     let next = printing::put_text(word, out, at);
@@ -28,11 +28,11 @@ pub fn put_shown(word: &[u8], octets: &[u8], out: &mut [u8], at: usize) -> usize
 pub fn say_refusal(number: u8, out: &mut [u8]) -> usize
     ensures { λ r. ⌜ sheet (now (out .exit)) r ≡ pour (sheet (now (out .entry)) 0) (refusal number) ⌝ }
 {
-    put_count(b"refused ", number as u32, out, 0)
+    put_count(b"refused ", number as usize, out, 0)
 }
 
 // Puts refused N at the front, with the octet that a reader's number from 3 to 8 is about, and answers the next place.
-pub fn say_fault(number: u8, place: u32, out: &mut [u8]) -> usize
+pub fn say_fault(number: u8, place: usize, out: &mut [u8]) -> usize
     ensures { λ r. ⌜ sheet (now (out .exit)) r ≡ pour (sheet (now (out .entry)) 0) (faultLine number place) ⌝ }
 {
     let next = say_refusal(number, out);
@@ -52,5 +52,15 @@ pub fn say_written(written: Written, buffer: &[u8], out: &mut [u8]) -> usize
     match written {
         Written::Octets(n) => put_shown(b"octets ", pieces::stretch(buffer, 0, n), out, 0),
         Written::Refused(n, _) => say_refusal(n, out),
+    }
+}
+
+// Puts what was written again to the front of a buffer, or the refusal with the reader's octet, and answers the next place.
+pub fn say_again(written: Written, buffer: &[u8], out: &mut [u8]) -> usize
+    ensures { λ r. ⌜ sheet (now (out .exit)) r ≡ pour (sheet (now (out .entry)) 0) (againLine (writtenTold written) (now (buffer .entry))) ⌝ }
+{
+    match written {
+        Written::Octets(_) => say_written(written, buffer, out),
+        Written::Refused(n, at) => say_fault(n, at, out),
     }
 }

@@ -1,21 +1,17 @@
 // What the desk answers to SCCP's requests: sccp-shape, sccp-read, sccp-write, sccp-compact.
 ghost use mathlib.Core.Path.{_≡_};
-ghost use Prim.Native.Nat.{ℕ, _≤_};
-ghost use Rattle.octets.specs.Answer.{refused};
-ghost use Rattle.octets.specs.Told.{writtenTold};
 ghost use Rattle.sccp.specs.Read.{sccpReadOf};
 ghost use Rattle.sccp.specs.Told.{sccpTold};
 ghost use Rattle.sccp.specs.Write.{sccpWriteOf, sccpCompactOf};
 ghost use Rattle.printing.specs.Sheet.{sheet, pour};
 ghost use Rattle.requests.specs.Words.{numberAt, octetsAt};
 ghost use Rattle.requests.specs.Along.{saidIn};
-ghost use Rattle.lines.specs.Lines.{octetsLine, againLine, compactLine, lent};
+ghost use Rattle.lines.specs.Lines.{octetsLine, compactLine, lent};
 ghost use Rattle.sccp_lines.specs.Sccp.{threeLine, typeLine, sccpLine};
 use fields::Field;
 use forms::SCCP_READ;
 use forms::SCCP_SHAPE;
 use forms::SCCP_WRITE;
-use octets::Written;
 use parts::Parts;
 use requests::Request;
 use sccp::Message;
@@ -71,7 +67,7 @@ fn say_read(message: &[u8], out: &mut [u8]) -> usize
     ensures { λ r. ⌜ sheet (now (out .exit)) r ≡ pour (sheet (now (out .entry)) 0) (typeLine (now (message .entry)) (sccpReadOf (now (message .entry)))) ⌝ }
 {
     match sccp_codec::read(message) {
-        Reading::Refused(n, at) => sayings::say_fault(n, at as u32, out),
+        Reading::Refused(n, at) => sayings::say_fault(n, at, out),
         Reading::Read(x) => say_message(message, x, out),
     }
 }
@@ -105,19 +101,6 @@ fn say_write(fields: [Field; 8], octets: &[u8], out: &mut [u8]) -> usize
     sayings::say_written(written, buffer, out)
 }
 
-// What was written again to the front of a buffer, or the reader's refusal with its octet.
-fn say_again(written: Written, buffer: &[u8], out: &mut [u8]) -> usize
-    requires { ⌜ ((n at : ℕ) → writtenTold written ≡ refused n at → at ≤ 65535) ⌝ }
-    ensures { λ r. ⌜ sheet (now (out .exit)) r ≡ pour (sheet (now (out .entry)) 0) (againLine (writtenTold written) (now (buffer .entry))) ⌝ }
-{
-    match written {
-        Written::Octets(n) => {
-            sayings::put_shown(b"octets ", pieces::stretch(buffer, 0, n), out, 0)
-        }
-        Written::Refused(n, at) => sayings::say_fault(n, at as u32, out),
-    }
-}
-
 // Writes a message again, and says what was written.
 fn say_compact(fields: [Field; 8], octets: &[u8], out: &mut [u8]) -> usize
     ensures { λ r. ⌜ sheet (now (out .exit)) r ≡ pour (sheet (now (out .entry)) 0)
@@ -131,7 +114,7 @@ fn say_compact(fields: [Field; 8], octets: &[u8], out: &mut [u8]) -> usize
         pieces::stretch(octets, message.from, message.count as usize),
         buffer,
     );
-    say_again(written, buffer, out)
+    sayings::say_again(written, buffer, out)
 }
 
 // Puts the answer's line to one of SCCP's requests at the front of `out`, and answers the next place. What `out` has no room for is left out.

@@ -12,8 +12,8 @@ pub fn say_row(row: Row, out: &mut [u8]) -> usize
     match row {
         Row::Unknown => sayings::say_refusal(3, out),
         Row::Has(shape) => {
-            let fixed = sayings::put_count(b"fixed ", shape.fixed as u32, out, 0);
-            let variable = sayings::put_count(b" variable ", shape.vars as u32, out, fixed);
+            let fixed = sayings::put_count(b"fixed ", shape.fixed as usize, out, 0);
+            let variable = sayings::put_count(b" variable ", shape.vars as usize, out, fixed);
             if shape.opt {
                 return printing::put_text(b" optional yes", out, variable);
             }

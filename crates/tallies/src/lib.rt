@@ -15,28 +15,28 @@ use book::Place;
 
 // A sender's four numbers: messages, accepted, refused, circuits busy at the end.
 pub struct Tally {
-    pub messages: u32,
-    pub accepted: u32,
-    pub refused: u32,
-    pub busy: u32,
+    pub messages: usize,
+    pub accepted: usize,
+    pub refused: usize,
+    pub busy: usize,
 }
 
 // 1 where a circuit is the sender's and busy.
-fn busy_at(owner: u8, state: u8, sender: u8) -> u32
+fn busy_at(owner: u8, state: u8, sender: u8) -> usize
     ensures { λ r. ⌜ (r ≡ (if eqb owner sender then state % 2 else 0)) × (r ≤ 1) ⌝ }
 {
     if owner == sender {
-        return (state % 2) as u32;
+        return (state % 2) as usize;
     }
     0
 }
 
 // How many circuits are a sender's and busy.
-fn busy_of(owners: &[u8], states: &[u8], sender: u8) -> u32
+fn busy_of(owners: &[u8], states: &[u8], sender: u8) -> usize
     requires { ⌜ (length (now owners) ≡ 4096) × (length (now states) ≡ 4096) ⌝ }
     ensures { λ r. ⌜ (r ≡ busyOf (now (owners .entry)) (now (states .entry)) sender 0 4096) × (r ≤ 4096) ⌝ }
 {
-    let mut busy: u32 = 0;
+    let mut busy: usize = 0;
     let mut circuit = 0;
     while circuit < 4096 {
         busy += busy_at(owners[circuit], states[circuit], sender);
@@ -46,12 +46,12 @@ fn busy_of(owners: &[u8], states: &[u8], sender: u8) -> u32
 }
 
 // The value of a counter.
-fn counter(counters: &[u16], sender: u8) -> u32
+fn counter(counters: &[u16], sender: u8) -> usize
     requires { ⌜ length (now counters) ≡ 256 ⌝ }
     ensures { λ r. ⌜ (r ≡ octet (now (counters .entry)) sender) × (r ≤ 65535) ⌝ }
 {
     let at = sender as usize;
-    counters[at] as u32
+    counters[at] as usize
 }
 
 // A sender's four numbers, each 0 where it sent nothing: its circuits are not counted then.
@@ -97,12 +97,12 @@ fn put_sender(sender: u8, t: Tally, out: &mut [u8], at: usize) -> usize
     if t.messages == 0 {
         return at;
     }
-    let next = printing::put_number(sender as u32, out, at);
+    let next = printing::put_number(sender as usize, out, at);
     put_numbers(t, out, next)
 }
 
 // Adds a sender's numbers, where there is a line of them.
-fn add(sums: Tally, more: Tally, lines: u32) -> Tally
+fn add(sums: Tally, more: Tally, lines: usize) -> Tally
     requires { ⌜ Below sums lines × Below more 1 × (lines < 256) ⌝ }
     ensures { λ r. ⌜ (r ≡ added sums (shownOf more)) × Below r (lines + 1) ⌝ }
 {
@@ -136,7 +136,7 @@ fn put_lines(
         busy: 0,
     };
     let mut next = 0;
-    let mut sender: u32 = 0;
+    let mut sender: usize = 0;
     while sender < 256 {
         let q = sender as u8;
         let t = tally_in(q, owners, states, accepted, refused);

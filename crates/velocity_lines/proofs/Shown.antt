@@ -1,8 +1,8 @@
 -- What codes stand for is shown as the codes themselves.
-use Prim.Native.Nat.{ℕ, _+_, _*_, _/_, _≤_, _<_}
+use Prim.Native.Nat.{ℕ, _+_, _*_, _≤_, _<_}
 use mathlib.Core.Path.{_≡_, refl}
 use mathlib.Core.Bool.{true, false}
-use native.Mathlib.Nat.{le-trans, min-le-left, mul-lt-mul-of-pos-right, div-lt-iff-lt-mul}
+use native.Mathlib.Nat.{le-trans, mul-lt-mul-of-pos-right}
 use native.Mathlib.Omega.{arith}
 use borrow.Author.Tests.{lt-ltb, le-ltb, ltb-true}
 use lib.Dec.{T, lt→ltb, le→leb, lit≤}
@@ -17,7 +17,7 @@ use Rattle.velocity.specs.Velocity.{wholeOf, knownOf}
 use Rattle.lines.specs.Lines.{refusal}
 use Rattle.velocity_lines.specs.Velocities.{wholeIn, codesLine, courseLine, knownLine, backLine}
 
--- a value below 65536 is below 2 ^ 64, and so is its whole part below 65536
+-- a value below 65536 is below 2 ^ 64
 pub below-64 : (x : Float) → lt x (fin false 1 (pos 16)) ≡ true → T (lt x (fin false 1 (pos 64)))
 unfolding lt
 below-64 nan p = let z : _≡_ {A = ℕ} 0 1 = cc in absurd (omega arith)
@@ -25,17 +25,6 @@ below-64 (inf true) p = tt
 below-64 (inf false) p = let z : _≡_ {A = ℕ} 0 1 = cc in absurd (omega arith)
 below-64 (fin false m e) p = lt→ltb (m * up e * 1) (18446744073709551616 * down e) (omega (arith, ltb-true (m * up e * 1) (65536 * down e) p))
 below-64 (fin true m e) p = lt→ltb 0 (m * up e * 1 + 18446744073709551616 * down e) (omega (arith, down-pos e))
-
-pub whole-small : (x : Float) → lt x (fin false 1 (pos 16)) ≡ true → toUnsigned 64 x < 65536
-unfolding lt toUnsigned
-whole-small nan p = omega arith
-whole-small (inf true) p = omega arith
-whole-small (inf false) p = let z : _≡_ {A = ℕ} 0 1 = cc in absurd (omega arith)
-whole-small (fin true m e) p = omega arith
-whole-small (fin false m e) p =
-    let h : m * up e < 65536 * down e = omega (arith, ltb-true (m * up e * 1) (65536 * down e) p) in
-    let d : m * up e / down e < 65536 = div-lt-iff-lt-mul (down-pos e) .1 h in
-    omega (arith, min-le-left (m * up e / down e) 18446744073709551615, d)
 
 -- a whole number below 65536 is above -1 and below 65536
 inside : (n : ℕ) → n < 65536 → (y : Float) → HasValue y false n 1 → (lt (fin true 1 (pos 0)) y ≡ true) × (lt y (fin false 1 (pos 16)) ≡ true)

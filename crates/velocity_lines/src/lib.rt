@@ -64,13 +64,13 @@ fn say_codes(codes: Codes, out: &mut [u8]) -> usize
 {
     match codes {
         Codes::Horizontal(b, s) => {
-            let bearing = sayings::put_count(b"bearing ", b as u32, out, 0);
-            sayings::put_count(b" speed ", s as u32, out, bearing)
+            let bearing = sayings::put_count(b"bearing ", b as usize, out, 0);
+            sayings::put_count(b" speed ", s as usize, out, bearing)
         }
         Codes::WithVertical(b, s, u, mark) => {
-            let bearing = sayings::put_count(b"bearing ", b as u32, out, 0);
-            let speed = sayings::put_count(b" speed ", s as u32, out, bearing);
-            let vertical = sayings::put_count(b" vertical ", u as u32, out, speed);
+            let bearing = sayings::put_count(b"bearing ", b as usize, out, 0);
+            let speed = sayings::put_count(b" speed ", s as usize, out, bearing);
+            let vertical = sayings::put_count(b" vertical ", u as usize, out, speed);
             put_mark(mark, out, vertical)
         }
     }
@@ -127,12 +127,12 @@ fn say_velocity_long(
 }
 
 // The whole number that a value above -1 and below 65536 is, its fraction dropped; 0 for any other.
-fn whole(x: f64) -> u32
+fn whole(x: f64) -> usize
     ensures { λ r. ⌜ r ≡ wholeIn x ⌝ }
 {
     if x > -1.0 {
         if x < 65536.0 {
-            return std::num::truncating_f64_to_u64(x) as u32;
+            return std::num::truncating_f64_to_u64(x) as usize;
         }
     }
     0

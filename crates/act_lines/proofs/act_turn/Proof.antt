@@ -1,7 +1,5 @@
-use mathlib.Core.Path.{sym, _∙_, ap}
-use native.Mathlib.Omega.{arith}
+use mathlib.Core.Path.{_∙_, ap}
 use denote.Ref.{now}
-use Rattle.board.proofs.Kept.{board-places-within}
 use Rattle.board.specs.Board.{BoardAfter}
 use Rattle.printing.specs.Sheet.{sheet, pour}
 use Rattle.requests.proofs.Said.{number-at, octets-at}
@@ -43,7 +41,7 @@ act-requires : tie.Need-act-requires
 act-requires c κs = search needs
 
 say-acted-requires : tie.Need-say-acted-requires
-say-acted-requires c κs = λ n at e. omega (arith, board-places-within _ _ _ _ _ n at (sym (ap (λ (x : BoardAfter). x .answer) (c .before .before .before .before .before .before .before .before .act .ensures)) ∙ e))
+say-acted-requires c κs = search needs
 
 same-length : tie.Need-same-length
 same-length c = search needs

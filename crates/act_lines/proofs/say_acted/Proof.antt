@@ -2,7 +2,6 @@ use Rattle.octets.specs.Told.{writtenTold}
 use Rattle.octets.specs.declared.Written.{Written}
 use Rattle.printing.specs.Sheet.{sheet, pour}
 use Rattle.act_lines.specs.Acts.{replyLine}
-use native.Mathlib.Omega.{arith}
 use denote.Ref.{now}
 use mathlib.Core.Path.{sym, _∙_, ap}
 use borrow.Author.Needs.{needs}
@@ -23,9 +22,6 @@ put-shown-requires c κs = search needs
 
 enum-known-acted-2 : tie.Need-enum-known-acted-2
 enum-known-acted-2 c = search needs
-
-cast-say-fault : tie.Need-cast-say-fault
-cast-say-fault c = omega (arith, c .before .before .before .before .before .pre _ _ (ap writtenTold (c .before .acted2 .given .1)))
 
 say-fault-requires : tie.Need-say-fault-requires
 say-fault-requires c κs = search needs
@@ -53,7 +49,6 @@ say-acted-spec =
     stretch-requires
     put-shown-requires
     enum-known-acted-2
-    cast-say-fault
     say-fault-requires
     same-length
     returns

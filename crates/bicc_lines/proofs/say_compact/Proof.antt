@@ -1,8 +1,6 @@
 use Prim.Native.Nat.{ℕ}
-use mathlib.Core.Path.{sym, _∙_, ap}
-use native.Mathlib.Omega.{arith}
+use mathlib.Core.Path.{_∙_, ap}
 use denote.Ref.{now}
-use Rattle.bicc.proofs.Places.{compact-places-within}
 use Rattle.octets.specs.Filled.{Done}
 use Rattle.printing.specs.Sheet.{sheet, pour}
 use Rattle.requests.proofs.Said.{number-at, octets-at}
@@ -39,7 +37,7 @@ compact-requires : tie.Need-compact-requires
 compact-requires c κs = search needs
 
 say-again-requires : tie.Need-say-again-requires
-say-again-requires c κs = λ n at e. omega (arith, compact-places-within _ _ n at (sym (ap (λ (d : Done ℕ). d .answer) (c .before .before .before .before .compact .ensures)) ∙ e))
+say-again-requires c κs = search needs
 
 same-length : tie.Need-same-length
 same-length c = search needs

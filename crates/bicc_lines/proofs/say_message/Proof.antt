@@ -7,6 +7,9 @@ use Rattle.bicc_lines.proofs.say_message.Tie as tie
 slice-aggregate-put-count : tie.Need-slice-aggregate-put-count
 slice-aggregate-put-count c = search needs
 
+cast-put-count : tie.Need-cast-put-count
+cast-put-count c = search needs
+
 put-count-requires : tie.Need-put-count-requires
 put-count-requires c κs = search needs
 
@@ -34,6 +37,7 @@ say-message-spec =
     tie.close
     (tie.spec
     slice-aggregate-put-count
+    cast-put-count
     put-count-requires
     slice-aggregate-put-shown
     slice-aggregate-put-shown-2

@@ -1,7 +1,5 @@
-use mathlib.Core.Path.{sym, _∙_, ap}
-use native.Mathlib.Omega.{arith}
+use mathlib.Core.Path.{_∙_, ap}
 use denote.Ref.{now}
-use Rattle.finding.proofs.Places.{find-places-within}
 use Rattle.octets.specs.Answer.{Answer}
 use Rattle.finding.specs.Find.{Spot}
 use Rattle.printing.specs.Sheet.{sheet, pour}
@@ -36,7 +34,7 @@ locate-requires : tie.Need-locate-requires
 locate-requires c κs = search needs
 
 say-located-requires : tie.Need-say-located-requires
-say-located-requires c κs = λ n at e. omega (arith, find-places-within _ _ _ n at (sym (c .before .locate .ensures) ∙ e))
+say-located-requires c κs = search needs
 
 same-length : tie.Need-same-length
 same-length c = search needs

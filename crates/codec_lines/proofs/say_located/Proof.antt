@@ -2,7 +2,6 @@ use Rattle.finding.specs.Told.{locatedTold}
 use Rattle.finding.specs.declared.Located.{Located}
 use Rattle.printing.specs.Sheet.{sheet, pour}
 use Rattle.codec_lines.specs.Codec.{foundLine}
-use native.Mathlib.Omega.{arith}
 use denote.Ref.{now}
 use mathlib.Core.Path.{sym, _∙_, ap}
 use borrow.Author.Needs.{needs}
@@ -35,9 +34,6 @@ put-shown-requires-2 c κs = search needs
 
 enum-known-located-3 : tie.Need-enum-known-located-3
 enum-known-located-3 c = search needs
-
-cast-say-fault : tie.Need-cast-say-fault
-cast-say-fault c = omega (arith, c .before .before .before .before .before .before .pre _ _ (ap locatedTold (c .before .located3 .given .1)))
 
 say-fault-requires : tie.Need-say-fault-requires
 say-fault-requires c κs = search needs
@@ -76,7 +72,6 @@ say-located-spec =
     stretch-requires-2
     put-shown-requires-2
     enum-known-located-3
-    cast-say-fault
     say-fault-requires
     same-length
     returns

@@ -1,10 +1,8 @@
 use mathlib.Core.Path.{_∙_, ap}
-use native.Mathlib.Omega.{arith}
 use denote.Ref.{now}
 use Rattle.isup.specs.Table.{isup}
-use Rattle.cursor.specs.declared.Refusal.{Refusal}
 use Rattle.printing.specs.Sheet.{sheet, pour}
-use Rattle.list_lines.proofs.Stepping.{begun-line, refusal-place}
+use Rattle.list_lines.proofs.Stepping.{begun-line}
 use borrow.Author.Needs.{needs}
 use Rattle.listing.proofs.say_isup.Statement.{statement}
 use Rattle.listing.proofs.say_isup.Tie as tie
@@ -16,7 +14,7 @@ isup-place-requires : tie.Need-isup-place-requires
 isup-place-requires c κs = search needs
 
 say-list-requires : tie.Need-say-list-requires
-say-list-requires c κs = omega (arith, ap (λ (x : Refusal). x .place) (c .before .before .refusal-isup .ensures), refusal-place isup (now (c .before .before .before .before .before .args .message)) (omega arith))
+say-list-requires c κs = search needs
 
 same-length : tie.Need-same-length
 same-length c = search needs

@@ -12,9 +12,6 @@ same-length c = search needs
 returns : tie.Need-returns
 returns c = rw (eq-eqb _ _ (c .before .before .before .before .if1 .taken)) (c .before .before .say-steps .ensures)
 
-cast-say-fault : tie.Need-cast-say-fault
-cast-say-fault c = search needs
-
 say-fault-requires : tie.Need-say-fault-requires
 say-fault-requires c κs = search needs
 
@@ -22,7 +19,7 @@ same-length-2 : tie.Need-same-length-2
 same-length-2 c = search needs
 
 returns-2 : tie.Need-returns-2
-returns-2 c = rw (ne-eqb _ _ (c .before .before .before .before .before .if1 .left)) (c .before .before .say-fault .ensures)
+returns-2 c = rw (ne-eqb _ _ (c .before .before .before .before .if1 .left)) (c .before .before .say-fault .ensures)
 
 pub say-list-spec : {M : Type 1} → statement M
 say-list-spec =
@@ -31,7 +28,6 @@ say-list-spec =
     say-steps-requires
     same-length
     returns
-    cast-say-fault
     say-fault-requires
     same-length-2
     returns-2)

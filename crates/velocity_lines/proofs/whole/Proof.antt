@@ -1,18 +1,13 @@
 use mathlib.Core.Path.{sym, _∙_, subst}
-use native.Mathlib.Omega.{arith}
 use lib.Dec.{T}
 use lib.Ieee.{ofBits, neg}
-use Rattle.velocity_lines.proofs.Shown.{below-64, whole-small, whole-inside, whole-past, whole-before}
+use Rattle.velocity_lines.proofs.Shown.{below-64, whole-inside, whole-past, whole-before}
 use Rattle.velocity_lines.proofs.whole.Statement.{statement}
 use Rattle.velocity_lines.proofs.whole.Tie as tie
 
 truncating-f64-to-u64-requires : tie.Need-truncating-f64-to-u64-requires
 unfolding ofBits neg
 truncating-f64-to-u64-requires c κs = (subst T (sym (c .before .if1 .taken)) tt, below-64 _ (c .if2 .taken))
-
-cast-result : tie.Need-cast-result
-unfolding ofBits neg
-cast-result c = record { fits = omega (arith, whole-small _ (c .before .if2 .taken), c .truncating-f64-to-u64 .ensures) }
 
 returns : tie.Need-returns
 unfolding ofBits neg
@@ -28,4 +23,4 @@ returns-3 c = whole-before _ (c .if1 .left)
 
 pub whole-spec : {M : Type 1} → statement M
 whole-spec =
-    tie.close (tie.spec truncating-f64-to-u64-requires cast-result returns returns-2 returns-3)
+    tie.close (tie.spec truncating-f64-to-u64-requires returns returns-2 returns-3)
