@@ -9,7 +9,8 @@ use Rattle.requests.specs.Words.{numberAt, octetsAt}
 use Rattle.lines.specs.Lines.{shown, faultLine, lent}
 use Rattle.table_lines.specs.Tables.{DeskTables, deskTables, Turn, turn}
 
--- answer 05002901020300, or answer - where there are no answer octets; or the refusal with the reader's octet
+-- answer 05002901020300, or answer - where there are no answer octets; or the
+-- refusal with the reader's octet
 unfoldable pub replyLine : Answer ℕ → List ℕ → List ℕ
 replyLine (accepted n) buffer = shown "answer " (take n buffer)
 replyLine (refused n at) buffer = faultLine n at
@@ -24,4 +25,5 @@ actsOf D gs = boardOf (D .tables) (D .totals) (numberAt gs 0) (octetsAt gs 1) (l
 
 -- the hub's request: act
 unfoldable pub actTurn : DeskTables → List FieldSays → Turn
-actTurn D gs = turn (deskTables (actsOf D gs .states) (D .tables .owners) (D .tables .helpers) (actsOf D gs .totals)) (actLine (actsOf D gs))
+actTurn D gs =
+    turn (deskTables (actsOf D gs .states) (D .tables .owners) (D .tables .helpers) (actsOf D gs .totals)) (actLine (actsOf D gs))

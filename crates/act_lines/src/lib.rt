@@ -8,9 +8,11 @@ ghost use Rattle.act_lines.specs.Acts.{replyLine, actTurn};
 use octets::Written;
 use requests::Request;
 
-// What the hub answered, its octets at the front of a buffer; or the refusal with the reader's octet.
+// What the hub answered, its octets at the front of a buffer; or the
+// refusal with the reader's octet.
 fn say_acted(acted: Written, buffer: &[u8], out: &mut [u8]) -> usize
-    ensures { λ r. ⌜ sheet (now (out .exit)) r ≡ pour (sheet (now (out .entry)) 0) (replyLine (writtenTold acted) (now (buffer .entry))) ⌝ }
+    ensures { λ r. ⌜ sheet (now (out .exit)) r ≡
+        pour (sheet (now (out .entry)) 0) (replyLine (writtenTold acted) (now (buffer .entry))) ⌝ }
 {
     match acted {
         Written::Octets(n) => sayings::put_shown(b"answer ", pieces::stretch(buffer, 0, n), out, 0),
@@ -18,7 +20,8 @@ fn say_acted(acted: Written, buffer: &[u8], out: &mut [u8]) -> usize
     }
 }
 
-// Hands the message of an act to the hub, puts its line at the front of `out`, and answers the next place.
+// Hands the message of an act to the hub, puts its line at the front of
+// `out`, and answers the next place.
 pub fn act_turn(
     request: Request,
     octets: &[u8],

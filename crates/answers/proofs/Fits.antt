@@ -49,7 +49,8 @@ answer-fits line D = go (eqb states 4096) (eqb (length (D .held .tables .owners)
     go true false h t u e f = omega (arith, counted-length "refused " 16)
     go false o h t u e f = omega (arith, counted-length "refused " 16)
 
--- so with 41032 octets of scratch a buffer of 81920 octets holds the whole line with its LF, at its front
+-- so with 41032 octets of scratch a buffer of 81920 octets holds the whole
+-- line with its LF, at its front
 pub answer-whole : (scratch : ℕ) (line : List ℕ) (D : Desk) (buffer : List ℕ) (E : Desk) (b : List ℕ) (n : ℕ) → 41032 ≤ scratch → length buffer ≡ 81920 → AnswersLine scratch line D buffer E b n → (E ≡ turnOf line D .desk) × (take n b ≡ turnOf line D .line ++ (10 ∷ []))
 answer-whole scratch line D buffer E b n k h e =
     let t = turnOf line D in

@@ -43,7 +43,8 @@ module _ (line : List ℕ) (D : Desk) where
       go true nothing e = refl
       go false a e = refl
 
-  -- a row changes by `set`, by an `act` that the hub does not refuse, or by a `block` or an `unblock` that is not refused
+  -- a row changes by `set`, by an `act` that the hub does not refuse, or by a `block` or an
+  -- `unblock` that is not refused
   pub states-kept : ((gs : List FieldSays) → askedOf line ≡ asks SET gs → ⊥) → ((gs : List FieldSays) → askedOf line ≡ asks ACT gs → Refused (D .held) gs)
       → ((gs : List FieldSays) → askedOf line ≡ asks BLOCK gs → NotBlocked (D .held) BLOCK gs) → ((gs : List FieldSays) → askedOf line ≡ asks UNBLOCK gs → NotBlocked (D .held) UNBLOCK gs) → turnOf line D .desk .held .tables .states ≡ D .held .tables .states
   unfolding turnOf

@@ -13,9 +13,12 @@ use Rattle.turns.specs.Turns.{Desk, DeskTurn, deskTurn, DeskLeft, deskLeft, bad
 
 -- each has its length
 abbrev pub deskSized : Desk → Bool
-deskSized D = deskSizedBy (length (D .held .tables .states)) (length (D .held .tables .owners)) (length (D .held .tables .helpers)) (length (D .held .totals)) (length (D .ticks))
+deskSized D =
+    deskSizedBy (length (D .held .tables .states)) (length (D .held .tables .owners))
+    (length (D .held .tables .helpers)) (length (D .held .totals)) (length (D .ticks))
 
--- the octets of scratch that a line asks for: as many as half of its octets can be digits of, and nine more for each of eight words that are kept as they are typed
+-- the octets of scratch that a line asks for: as many as half of its octets can be digits of, and
+-- nine more for each of eight words that are kept as they are typed
 abbrev pub scratchLeast : ℕ
 scratchLeast = 41032
 
@@ -24,7 +27,8 @@ abbrev pub turnFor : Desk → Asked → DeskTurn
 turnFor D (asks which gs) = rowTurn D which gs
 turnFor D nothing = badTurn D
 
--- a line; 16 for tables or ticks that are not exactly 4096 octets, or totals that are not 64, whatever is asked
+-- a line; 16 for tables or ticks that are not exactly 4096 octets, or totals
+-- that are not 64, whatever is asked
 unfoldable pub turnOf : List ℕ → Desk → DeskTurn
 turnOf line D = if deskSized D then turnFor D (askedOf line) else deskTurn D (refusal 16)
 

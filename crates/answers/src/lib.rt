@@ -1,4 +1,5 @@
-// What the desk answers to a line. The proved libraries do the work, and the answer is written as a line into a lent buffer.
+// What the desk answers to a line. The proved libraries do the work, and the answer is written as a
+// line into a lent buffer.
 ghost use mathlib.Core.Path.{_≡_};
 ghost use lib.ListN.{length};
 ghost use Rattle.printing.specs.Sheet.{sheet};
@@ -47,9 +48,13 @@ fn answer_line(
     sayings::say_refusal(16, out)
 }
 
-// Answers a line: the tables are as the request left them, and the answer's line, with its LF, is at the front of `out`. Answers how many octets it has.
-// A line that is no request, or that is refused, changes no table. What `out` has no room for is left out.
-// The octets of the line's fields are put into `scratch`. What it holds afterwards is not said; what it held before changes nothing, but with fewer than 41032 octets of it each line is a bad one.
+// Answers a line: the tables are as the request left them, and the answer's line, with its LF, is
+// at the front of `out`. Answers how many octets it has.
+// A line that is no request, or that is refused, changes no table. What `out`
+// has no room for is left out.
+// The octets of the line's fields are put into `scratch`. What it holds afterwards
+// is not said; what it held before changes nothing, but with fewer than 41032
+// octets of it each line is a bad one.
 pub fn answer(
     line: &[u8],
     states: &mut [u8],

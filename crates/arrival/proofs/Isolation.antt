@@ -1,4 +1,5 @@
--- Where no two parties of a list have a right on the same row, every party has the answers, and every row the end, that it has where the other parties sent nothing.
+-- Where no two parties of a list have a right on the same row, every party has the answers, and
+-- every row the end, that it has where the other parties sent nothing.
 use Prim.Native.Nat.{ℕ}
 use mathlib.Core.Path.{_≡_, refl, sym, _∙_, ap, subst}
 use mathlib.Core.Bool.{Bool, true, false}
@@ -129,7 +130,8 @@ module _ (K : Calls) where
             let k = A .keeps c s in
             ih (K .after c s) t (k .0 ∙ a .0, λ i h. k .1 i (z c (inl refl) (eqb-false _ _ e) i h) ∙ a .1 i h)
 
-    -- for every list whose parties share no row, and every party: its answers are those of the run of its own calls alone
+    -- for every list whose parties share no row, and every party: its answers are
+    -- those of the run of its own calls alone
     pub own-answers : (cs : List (K .Call)) → Separate K cs → (q : ℕ) (s : K .State) → answersOf K q cs s ≡ answers K (callsOf K q cs) s
     unfolding answers
     own-answers cs z q s = go (callsOf K q cs) refl

@@ -1,4 +1,5 @@
--- Two calls that name no row in common give the same answers and the same state in either order: each call is a party of its own, with a right on the rows that it names.
+-- Two calls that name no row in common give the same answers and the same state in either order:
+-- each call is a party of its own, with a right on the rows that it names.
 use Prim.Native.Nat.{ℕ}
 use mathlib.Core.Path.{_≡_, refl, sym, _∙_, ap}
 use mathlib.Core.Bool.{Bool, true, false}

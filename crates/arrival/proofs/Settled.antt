@@ -1,4 +1,5 @@
--- Totals over rows that parties share: what a total is at the end depends on the rows at the end, and on whether a call that was answered so sets it.
+-- Totals over rows that parties share: what a total is at the end depends on the rows at the end,
+-- and on whether a call that was answered so sets it.
 use Prim.Native.Nat.{ℕ}
 use mathlib.Core.Path.{_≡_, refl, sym, _∙_}
 use mathlib.Core.Bool.{Bool, true, false}

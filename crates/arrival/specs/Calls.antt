@@ -1,4 +1,5 @@
--- The order of arrival, over any calls: each call is of a party, a party has a right on some rows, and a call is a step on a state.
+-- The order of arrival, over any calls: each call is of a party, a party has a right on some rows,
+-- and a call is a step on a state.
 use Prim.Native.Nat.{ℕ}
 use mathlib.Core.Path.{_≡_}
 use mathlib.Core.Bool.{Bool, true, false}
@@ -27,12 +28,17 @@ pub record Calls : Type 1 where
 module _ (K : Calls) where
   -- two states agree on a party's rows
   abbrev pub Agree : ℕ → K .State → K .State → Type 0
-  Agree q s t = (K .sizes s ≡ K .sizes t) × ((i : ℕ) → K .holds q i ≡ true → K .row s i ≡ K .row t i)
+  Agree q s t =
+      (K .sizes s ≡ K .sizes t) × ((i : ℕ) → K .holds q i ≡ true → K .row s i ≡ K .row t i)
 
-  -- the two facts: a call's answer, and what it leaves on its party's rows, depend on those rows alone; and it leaves the other rows as they were
+  -- the two facts: a call's answer, and what it leaves on its party's rows, depend on those rows
+  -- alone; and it leaves the other rows as they were
   pub record Apart : Type 0 where
-    pub sees : (c : K .Call) (s t : K .State) → Agree (K .party c) s t → (K .answer c s ≡ K .answer c t) × Agree (K .party c) (K .after c s) (K .after c t)
-    pub keeps : (c : K .Call) (s : K .State) → (K .sizes (K .after c s) ≡ K .sizes s) × ((i : ℕ) → K .holds (K .party c) i ≡ false → K .row (K .after c s) i ≡ K .row s i)
+    pub sees : (c : K .Call) (s t : K .State) → Agree (K .party c) s t
+        → (K .answer c s ≡ K .answer c t) × Agree (K .party c) (K .after c s) (K .after c t)
+    pub keeps : (c : K .Call) (s : K .State)
+        → (K .sizes (K .after c s) ≡ K .sizes s)
+        × ((i : ℕ) → K .holds (K .party c) i ≡ false → K .row (K .after c s) i ≡ K .row s i)
 
   -- the call is one of the list
   abbrev pub Has : K .Call → List (K .Call) → Type 0
@@ -41,7 +47,9 @@ module _ (K : Calls) where
 
   -- R48. no two different parties of the list have a right on the same row
   abbrev pub Separate : List (K .Call) → Type 0
-  Separate cs = (c d : K .Call) → Has c cs → Has d cs → (i : ℕ) → K .holds (K .party c) i ≡ true → K .holds (K .party d) i ≡ true → K .party c ≡ K .party d
+  Separate cs =
+      (c d : K .Call) → Has c cs → Has d cs → (i : ℕ) → K .holds (K .party c) i ≡ true
+      → K .holds (K .party d) i ≡ true → K .party c ≡ K .party d
 
   -- the calls of a list, one after the other: the state at the end
   unfoldable pub stateAfter : List (K .Call) → K .State → K .State
@@ -58,7 +66,9 @@ module _ (K : Calls) where
   -- the answers of one party's calls
   unfoldable pub answersOf : ℕ → List (K .Call) → K .State → List (K .Reply)
   answersOf q [] s = []
-  answersOf q (c ∷ cs) s = if eqb (K .party c) q then K .answer c s ∷ answersOf q cs (K .after c s) else answersOf q cs (K .after c s)
+  answersOf q (c ∷ cs) s =
+      if eqb (K .party c) q then K .answer c s ∷ answersOf q cs (K .after c s)
+      else answersOf q cs (K .after c s)
 
   -- one party's calls, in its own order
   unfoldable pub callsOf : ℕ → List (K .Call) → List (K .Call)

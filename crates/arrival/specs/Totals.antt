@@ -12,9 +12,12 @@ module _ (K : Calls) where
     pub total : K .State → ℕ → ℕ
     pub count : K .State → ℕ → ℕ
     pub sets : K .Call → K .Reply → ℕ → Bool
-    pub counted : (c : K .Call) (s : K .State) (k : ℕ) → sets c (K .answer c s) k ≡ true → total (K .after c s) k ≡ count (K .after c s) k
-    pub counts : (s t : K .State) → ((i : ℕ) → K .row s i ≡ K .row t i) → (k : ℕ) → count s k ≡ count t k
-    pub stays : (c : K .Call) (s : K .State) (k : ℕ) → sets c (K .answer c s) k ≡ false → (total (K .after c s) k ≡ total s k) × (count (K .after c s) k ≡ count s k)
+    pub counted : (c : K .Call) (s : K .State) (k : ℕ) → sets c (K .answer c s) k ≡ true
+        → total (K .after c s) k ≡ count (K .after c s) k
+    pub counts : (s t : K .State) → ((i : ℕ) → K .row s i ≡ K .row t i) → (k : ℕ)
+        → count s k ≡ count t k
+    pub stays : (c : K .Call) (s : K .State) (k : ℕ) → sets c (K .answer c s) k ≡ false
+        → (total (K .after c s) k ≡ total s k) × (count (K .after c s) k ≡ count s k)
 
   module _ (T : Totals) where
     -- whether some call of the run sets total k

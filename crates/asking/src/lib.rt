@@ -29,10 +29,14 @@ const MOST_RANGE: usize = 31;
 // CGB and CGU mark so many circuits at the most.
 const MOST_MARKS: usize = 32;
 
-// What GRS or CQM asks: 14 unless its contents are exactly the range's octet and the range is from the least on, to 31, then 18.
+// What GRS or CQM asks: 14 unless its contents are exactly the range's octet and the range is from
+// the least on, to 31, then 18.
 fn ask_range(message: &[u8], act: Act, circuit: usize, least: usize, contents: Span) -> Verdict
-    requires { ⌜ (contents .from ≤ contents .to) × (contents .to ≤ length (now message)) × (circuit ≤ lastCircuit) ⌝ }
-    ensures { λ r. ⌜ verdictTold r ≡ unbroken (brokenRange least (now (message .entry)) contents) (rangeAsk (now (message .entry)) act circuit contents) ⌝ }
+    requires { ⌜ (contents .from ≤ contents .to) × (contents .to ≤ length (now message))
+        × (circuit ≤ lastCircuit) ⌝ }
+    ensures { λ r. ⌜ verdictTold r ≡
+        unbroken (brokenRange least (now (message .entry)) contents)
+        (rangeAsk (now (message .entry)) act circuit contents) ⌝ }
 {
     let from = contents.from;
     if contents.to - from != 1 {
@@ -57,10 +61,14 @@ fn ask_range(message: &[u8], act: Act, circuit: usize, least: usize, contents: S
     })
 }
 
-// What CGB or CGU asks: 14 unless the kind is 0 or 1, the range 1 to 255, the status as wide as it says and its marks 32 at the most, then 18.
+// What CGB or CGU asks: 14 unless the kind is 0 or 1, the range 1 to 255, the status as wide as it
+// says and its marks 32 at the most, then 18.
 fn ask_group(message: &[u8], act: Act, circuit: usize, indicator: u8, contents: Span) -> Verdict
-    requires { ⌜ (contents .from ≤ contents .to) × (contents .to ≤ length (now message)) × (circuit ≤ lastCircuit) ⌝ }
-    ensures { λ r. ⌜ verdictTold r ≡ unbroken (brokenGroup (now (message .entry)) indicator contents) (groupAsk (now (message .entry)) act circuit indicator contents) ⌝ }
+    requires { ⌜ (contents .from ≤ contents .to) × (contents .to ≤ length (now message))
+        × (circuit ≤ lastCircuit) ⌝ }
+    ensures { λ r. ⌜ verdictTold r ≡
+        unbroken (brokenGroup (now (message .entry)) indicator contents)
+        (groupAsk (now (message .entry)) act circuit indicator contents) ⌝ }
 {
     let block = indicator % 4;
     if block > 1 {
@@ -108,11 +116,13 @@ fn ask_one(act: Act, circuit: usize) -> Verdict
     })
 }
 
-// What a message that reads asks, by its type, circuit, where its fixed part starts and its first contents: 17 for a type that the hub does not act on, then 14, then 18.
+// What a message that reads asks, by its type, circuit, where its fixed part starts and its first
+// contents: 17 for a type that the hub does not act on, then 14, then 18.
 // The type octet is looked at here and nowhere else.
 fn ask_in(message: &[u8], kind: u8, circuit: usize, at: usize, contents: Span) -> Verdict
     requires { ⌜ Placed (now message) kind circuit at contents ⌝ }
-    ensures { λ r. ⌜ verdictTold r ≡ askedIn (now (message .entry)) (looked kind circuit at contents) ⌝ }
+    ensures { λ r. ⌜ verdictTold r ≡
+        askedIn (now (message .entry)) (looked kind circuit at contents) ⌝ }
 {
     match kind {
         IAM => ask_one(Act::Seize, circuit),

@@ -1,4 +1,5 @@
--- Refused exactly when: the number is the first fault of a message in the paper's order, and acceptance is the absence of all.
+-- Refused exactly when: the number is the first fault of a message in the paper's order, and
+-- acceptance is the absence of all.
 use Prim.Native.Nat.{ℕ, _+_, _≤_}
 use mathlib.Core.Path.{_≡_, refl, sym, _∙_, subst}
 use mathlib.Core.Bool.{Bool, true, false}
@@ -91,7 +92,8 @@ module _ (m : List ℕ) (x : Message) where
     λ h. ⊎-elim (λ w. apart CQM GRS e refl (w .0)) (⊎-elim (λ w. ⊎-elim (apart CQM CGB e refl) (⊎-elim (apart CQM CGU e refl) (λ z. z)) (w .0)) (λ w. w .1 (range-kept 0 m x h))),
   )
 
--- what a message names, by the message: its circuit, and as many after it as the range octet of GRS, CGB, CGU or CQM says
+-- what a message names, by the message: its circuit, and as many after it as the range octet of
+-- GRS, CGB, CGU or CQM says
 pub ask-names : (m : List ℕ) (x : Message) (act : Act) → x .kind ≡ typeOf act → (askIn act m x .circuit ≡ x .circuit) × (askIn act m x .range ≡ rangeGiven m x)
 ask-names m x Seize e = (refl, rw e refl)
 ask-names m x Release e = (refl, rw e refl)

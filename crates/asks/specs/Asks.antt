@@ -1,4 +1,5 @@
--- What a message asks, from the message alone: which act, which circuits, which kind of block, and where the status stands.
+-- What a message asks, from the message alone: which act, which circuits, which kind of block, and
+-- where the status stands.
 -- Refused with 17, 14, 18, in that order.
 use Prim.Native.Nat.{ℕ, _+_, _/_, _%_, _^_, _≤_, _<_}
 use mathlib.Core.Path.{_≡_}
@@ -25,7 +26,8 @@ use Rattle.asks.specs.Types.{actFor}
 abbrev pub rangeIn : List ℕ → Span → ℕ
 rangeIn m contents = octet m (contents .from)
 
--- the indicator is the fixed octet; its low two bits say the kind, 0 for maintenance and 1 for hardware, the other bits are spare
+-- the indicator is the fixed octet; its low two bits say the kind, 0 for maintenance and 1 for
+-- hardware, the other bits are spare
 abbrev pub blockKind : ℕ → ℕ
 blockKind indicator = indicator % 4
 
@@ -33,7 +35,8 @@ blockKind indicator = indicator % 4
 abbrev pub width : ℕ → ℕ
 width r = r / 8 + 1
 
--- GRS and CQM break their rule unless their contents are exactly the range's octet, and the range is from the least to 31: 1 is the least of GRS, 0 of CQM
+-- GRS and CQM break their rule unless their contents are exactly the range's octet, and the range
+-- is from the least to 31: 1 is the least of GRS, 0 of CQM
 unfoldable pub brokenRange : ℕ → List ℕ → Span → Bool
 brokenRange least m contents =
     if eqb (spanSize contents) 1 then (if ltb (rangeIn m contents) least then true else ltb 31 (rangeIn m contents))
@@ -43,7 +46,8 @@ brokenRange least m contents =
 abbrev pub groupStatus : List ℕ → Span → List ℕ
 groupStatus m contents = octets m (contents .from + 1) (width (rangeIn m contents))
 
--- CGB and CGU break theirs unless the kind is 0 or 1, the range 1 to 255, and after it come exactly r/8+1 status octets, which mark 32 circuits at the most
+-- CGB and CGU break theirs unless the kind is 0 or 1, the range 1 to 255, and after it come exactly
+-- r/8+1 status octets, which mark 32 circuits at the most
 unfoldable pub brokenGroup : List ℕ → ℕ → Span → Bool
 brokenGroup m indicator contents =
     if ltb 1 (blockKind indicator) then true
@@ -58,7 +62,8 @@ oneAsk act circuit = record { act = act; circuit = circuit; range = 0; block = 0
 
 -- GRS and CQM name circuits m to m+r, each of them marked
 abbrev pub rangeAsk : List ℕ → Act → ℕ → Span → Ask
-rangeAsk m act circuit contents = record { act = act; circuit = circuit; range = rangeIn m contents; block = 0; status = 0 }
+rangeAsk m act circuit contents =
+    record { act = act; circuit = circuit; range = rangeIn m contents; block = 0; status = 0 }
 
 -- CGB and CGU name circuits m to m+r; the status, after the range, marks some of them
 abbrev pub groupAsk : List ℕ → Act → ℕ → ℕ → Span → Ask
@@ -69,7 +74,8 @@ groupAsk m act circuit indicator contents =
 abbrev pub indicatorIn : List ℕ → Message → ℕ
 indicatorIn m x = octet m (x .parts .fixed .from)
 
--- whether typed contents break their rule; the types that name one circuit have none that the hub looks at
+-- whether typed contents break their rule; the types that name one circuit
+-- have none that the hub looks at
 abbrev pub broken : Act → List ℕ → Message → Bool
 broken Seize m x = false
 broken Release m x = false
@@ -121,11 +127,13 @@ askOf m = readOf m then askedIn m
 unfoldable pub bitAt : List ℕ → ℕ → ℕ → Bool
 bitAt m status n = eqb (octet m (status + n / 8) / 2 ^ (n % 8) % 2) 1
 
--- whether circuit m+n is marked: by its status bit where there is a status, else as every named circuit is
+-- whether circuit m+n is marked: by its status bit where there is a status,
+-- else as every named circuit is
 unfoldable pub markOf : List ℕ → ℕ → ℕ → Bool
 markOf m status n = if eqb status 0 then true else bitAt m status n
 
--- what is known of an ask that was not refused: the group ends at the last circuit at the latest, CQM's has 32 circuits at the most, and the status is in the message
+-- what is known of an ask that was not refused: the group ends at the last circuit at the latest,
+-- CQM's has 32 circuits at the most, and the status is in the message
 pub record Sound (m : List ℕ) (a : Ask) : Type 0 where
   pub last : a .circuit + a .range ≤ lastCircuit
   pub few : a .range ≤ 255

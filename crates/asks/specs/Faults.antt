@@ -1,4 +1,5 @@
--- What a message can be refused for without looking at the tables: the reader's numbers, 17, 14, 18. Each is in the words of its rule, in the order of checking.
+-- What a message can be refused for without looking at the tables: the reader's numbers, 17, 14,
+-- 18. Each is in the words of its rule, in the order of checking.
 use Prim.Native.Nat.{ℕ, _+_, _≤_, _<_}
 use mathlib.Core.Path.{_≡_}
 use mathlib.Core.List.{List, [], _∷_, _++_}
@@ -30,7 +31,8 @@ pub record KeepsRange (least : ℕ) (m : List ℕ) (x : Message) : Type 0 where
   pub above : least ≤ rangeIn m (x .parts .first)
   pub most : rangeIn m (x .parts .first) ≤ 31
 
--- R40, R41. CGB, CGU: low two bits of the indicator 0 or 1; range from 1 on (an octet, so to 255), then exactly r/8+1 status octets; of the circuits m to m+r at most 32 are marked
+-- R40, R41. CGB, CGU: low two bits of the indicator 0 or 1; range from 1 on (an octet, so to 255),
+-- then exactly r/8+1 status octets; of the circuits m to m+r at most 32 are marked
 pub record KeepsGroup (m : List ℕ) (x : Message) : Type 0 where
   pub kinds : blockKind (indicatorIn m x) ≤ 1
   pub least : 1 ≤ rangeIn m (x .parts .first)
@@ -46,7 +48,8 @@ BreaksRule m x =
 
 -- R29. the range that a message gives: the range octet of GRS, CGB, CGU and CQM, else 0
 abbrev pub rangeGiven : List ℕ → Message → ℕ
-rangeGiven m x = if among (x .kind) (GRS ∷ CGB ∷ CGU ∷ CQM ∷ []) then rangeIn m (x .parts .first) else 0
+rangeGiven m x =
+    if among (x .kind) (GRS ∷ CGB ∷ CGU ∷ CQM ∷ []) then rangeIn m (x .parts .first) else 0
 
 -- R29. 18: group passes circuit 4095
 abbrev pub GroupPasses : List ℕ → Message → Type 0

@@ -10,7 +10,8 @@ use Rattle.isup.specs.declared.Message.{Message}
 use Rattle.isup.specs.Limits.{lastCircuit}
 use Rattle.isup.specs.Types.{CGB, CGU}
 
--- of a message that reads, all that the hub looks at: its type, its circuit, where its fixed part starts, and its first contents
+-- of a message that reads, all that the hub looks at: its type, its circuit, where its fixed part
+-- starts, and its first contents
 abbrev pub looked : ℕ → ℕ → ℕ → Span → Message
 looked kind circuit at contents =
     record {
@@ -25,7 +26,8 @@ looked kind circuit at contents =
       };
     }
 
--- what is known of these in a message that reads: the contents are within it, and the indicator too where the type has one
+-- what is known of these in a message that reads: the contents are within it,
+-- and the indicator too where the type has one
 pub record Placed (m : List ℕ) (kind circuit at : ℕ) (contents : Span) : Type 0 where
   pub starts : contents .from ≤ contents .to
   pub ends : contents .to ≤ length m

@@ -1,4 +1,5 @@
--- What a message in compact form says, to BICC and to the family alike; two that say the same are the same octets.
+-- What a message in compact form says, to BICC and to the family alike; two
+-- that say the same are the same octets.
 use Prim.Native.Nat.{ℕ, _<_}
 use mathlib.Core.Path.{_≡_, sym, _∙_, ap}
 use mathlib.Core.List.{List, []}

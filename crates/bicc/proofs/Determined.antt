@@ -1,4 +1,5 @@
--- Any two answers that a public function's contract allows are equal, with the buffer afterwards; and a refusal keeps the buffer.
+-- Any two answers that a public function's contract allows are equal, with the buffer afterwards;
+-- and a refusal keeps the buffer.
 use Prim.Native.Nat.{ℕ}
 use mathlib.Core.Path.{_≡_, sym, ap}
 use mathlib.Core.List.{List}

@@ -1,4 +1,5 @@
--- The reader accepts exactly the well-formed messages, and ignores what it should: family's theorems, with four octets of code, 270 octets and BICC's table.
+-- The reader accepts exactly the well-formed messages, and ignores what it should: family's
+-- theorems, with four octets of code, 270 octets and BICC's table.
 use Prim.Native.Nat.{ℕ, _≤_}
 use mathlib.Core.Path.{_≡_, refl, sym, _∙_, ap, subst}
 use mathlib.Core.List.{List}
@@ -38,7 +39,8 @@ read-exactly m x = (
 pub well-formed-unique : (m : List ℕ) (x y : Message) → CallFormed m x → CallFormed m y → x ≡ y
 well-formed-unique m x y f g = accepted-same (sym (read-exactly m x .1 f) ∙ read-exactly m y .1 g)
 
--- gaps and octets after the last part are ignored: a message that agrees on the code, the type, the fixed part, the pointers and the parts reads the same
+-- gaps and octets after the last part are ignored: a message that agrees on the code, the type, the
+-- fixed part, the pointers and the parts reads the same
 pub gaps-read-same : (m m′ : List ℕ) (x : Message) (f : CallFormed m x) → length m′ ≤ 270 → callCodeOf m′ ≡ callCodeOf m → Agrees (f .laid) m′ → callReadOf m′ ≡ callReadOf m
 unfolding callReadOf
 gaps-read-same m m′ x f l c g =

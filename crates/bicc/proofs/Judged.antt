@@ -1,4 +1,5 @@
--- Refused exactly when: the number is the first fault in the paper's order, and acceptance is the absence of all. 9 is never given: any number of 32 bits is a code.
+-- Refused exactly when: the number is the first fault in the paper's order, and acceptance is the
+-- absence of all. 9 is never given: any number of 32 bits is a code.
 use Prim.Native.Nat.{ℕ}
 use mathlib.Core.Path.{_≡_}
 use mathlib.Core.List.{List, [], append-nil}

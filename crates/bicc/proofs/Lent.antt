@@ -1,4 +1,5 @@
--- What `write` and `compact` leave in the lent buffer: what is written reads back as given, the code included; the one compact form, or 12.
+-- What `write` and `compact` leave in the lent buffer: what is written reads back as given, the
+-- code included; the one compact form, or 12.
 use Prim.Native.Nat.{ℕ, _≤_, _<_}
 use mathlib.Core.Path.{_≡_, refl}
 use mathlib.Core.List.{List}
@@ -19,7 +20,8 @@ use Rattle.bicc.proofs.Back.{tight, head-length, said, same-said, said-
 
 -- ---- writing
 module _ (code kind : ℕ) (fixed first second run buffer : List ℕ) (n : ℕ) (left : List ℕ) (e : callWriteOf code kind fixed first second run buffer ≡ leaving (accepted n) left) where
-  -- the n octets that `write` left read; they are in the compact form and say what was given, code and all, octet for octet
+  -- the n octets that `write` left read; they are in the compact form and say what was given, code
+  -- and all, octet for octet
   pub write-reads-back : code < 4294967296 → (x : Message) × (callReadOf (take n left) ≡ accepted x) × CallCompact (take n left) x × CallSays (take n left) x code kind fixed first second run
   unfolding callWriteOf callWriteIn
   write-reads-back h =

@@ -1,4 +1,5 @@
--- Messages read by hand: the code's least significant octet first, 1 below five octets, and a type that is ISUP's alone.
+-- Messages read by hand: the code's least significant octet first, 1 below five
+-- octets, and a type that is ISUP's alone.
 use mathlib.Core.Path.{_≡_, refl}
 use mathlib.Core.List.{[], _∷_}
 use Rattle.octets.specs.Answer.{accepted, refused}

@@ -1,4 +1,5 @@
--- The 20 types, and no other octet: our 24 without the four that are ISUP's alone, each with ISUP's row.
+-- The 20 types, and no other octet: our 24 without the four that are ISUP's
+-- alone, each with ISUP's row.
 use Prim.Native.Nat.{ℕ, _≤_, _<_}
 use mathlib.Core.Path.{_≡_, refl, sym}
 use mathlib.Core.Bool.{Bool, true, false}

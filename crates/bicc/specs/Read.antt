@@ -1,4 +1,5 @@
--- The reader: the call instance code, then the container from the type octet on, 5 octets to the longest in all.
+-- The reader: the call instance code, then the container from the type octet
+-- on, 5 octets to the longest in all.
 use Prim.Native.Nat.{ℕ}
 use mathlib.Core.List.{List}
 use Rattle.octets.specs.Octet.{octets}
@@ -18,6 +19,7 @@ callCodeOf m = codeIn (octets m 0 4)
 abbrev pub callMessage : List ℕ → Parts → Message
 callMessage m p = record { code = callCodeOf m; kind = kindAt m 4; parts = p }
 
--- a message that is well formed, or the first of the reader's numbers with the octet that it is about
+-- a message that is well formed, or the first of the reader's numbers with
+-- the octet that it is about
 unfoldable pub callReadOf : List ℕ → Answer Message
 callReadOf m = readIn bicc m then λ p. accepted (callMessage m p)

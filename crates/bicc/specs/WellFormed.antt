@@ -1,4 +1,5 @@
--- A well-formed BICC message, its compact form, and what a message says, as the paper says it: no order of reading.
+-- A well-formed BICC message, its compact form, and what a message says, as
+-- the paper says it: no order of reading.
 use Prim.Native.Nat.{ℕ, _≤_}
 use mathlib.Core.Path.{_≡_}
 use mathlib.Core.List.{List}
@@ -25,7 +26,9 @@ pub record CallFormed (m : List ℕ) (x : Message) : Type 0 where
   pub listed : callShapeOf (x .kind) ≡ Has shape
   pub laid : LaidOut m 4 shape (x .parts) params
 
--- variable parameters in pointer order right after the pointers, optional part next, nothing between or after; optional pointer 0 if there are no optional parameters. A code has no spare bits
+-- variable parameters in pointer order right after the pointers, optional part
+-- next, nothing between or after; optional pointer 0 if there are no optional
+-- parameters. A code has no spare bits
 pub record CallCompact (m : List ℕ) (x : Message) : Type 0 where
   pub formed : CallFormed m x
   pub tight : Compact m 4 (formed .shape) (x .parts) (formed .params)
@@ -39,8 +42,10 @@ pub record CallSays (m : List ℕ) (x : Message) (c k : ℕ) (f a b r : List ℕ
   pub second : partOf m (x .parts .second) ≡ b
   pub run : partOf m (x .parts .optional) ≡ r
 
--- the octets ys are a message in compact form that says what message m says, which reads as x: code, type, fixed octets, contents and optional run
+-- the octets ys are a message in compact form that says what message m says, which reads as x:
+-- code, type, fixed octets, contents and optional run
 abbrev pub CallSaysSame : List ℕ → Message → List ℕ → Type 0
 CallSaysSame m x ys =
     (y : Message) × CallCompact ys y
-    × CallSays ys y (x .code) (x .kind) (partOf m (x .parts .fixed)) (partOf m (x .parts .first)) (partOf m (x .parts .second)) (partOf m (x .parts .optional))
+    × CallSays ys y (x .code) (x .kind) (partOf m (x .parts .fixed)) (partOf m (x .parts .first))
+    (partOf m (x .parts .second)) (partOf m (x .parts .optional))

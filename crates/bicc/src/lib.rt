@@ -4,7 +4,8 @@ use parts::Parts;
 // A message has so many octets at the most.
 pub const LONGEST: usize = 270;
 
-// A message that is well formed: its call instance code, its type, and where its parts stand. BICC has no third variable part.
+// A message that is well formed: its call instance code, its type, and where its parts stand. BICC
+// has no third variable part.
 pub struct Message {
     pub code: u32,
     pub kind: u8,

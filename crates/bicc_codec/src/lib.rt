@@ -1,4 +1,5 @@
-// BICC, ISUP's sibling without circuits: the 20 types, the reader and the writer. A message has a call instance code of four octets, then the type and the parts as in ISUP.
+// BICC, ISUP's sibling without circuits: the 20 types, the reader and the writer. A message has a
+// call instance code of four octets, then the type and the parts as in ISUP.
 ghost use mathlib.Core.Path.{_≡_};
 ghost use Prim.Native.Nat.{_≤_};
 ghost use lib.ListN.{length};
@@ -16,7 +17,8 @@ use layout::Row;
 use octets::Written;
 use parts::Body;
 
-// What the table says of a type octet: ISUP's row, but that BLO, UBL, BLA and UBA, which stand together, are ISUP's alone.
+// What the table says of a type octet: ISUP's row, but that BLO, UBL, BLA and UBA, which stand
+// together, are ISUP's alone.
 pub fn shape_of(kind: u8) -> Row
     ensures { λ r. ⌜ r ≡ callShapeOf kind ⌝ }
 {
@@ -41,7 +43,8 @@ fn code_of(message: &[u8]) -> u32
     a + 256 * (b + 256 * (c + 256 * d))
 }
 
-// Reads a message: its code, its type and where its parts stand; or the refusal's number with the octet that it is about, 0 for 1 and 2.
+// Reads a message: its code, its type and where its parts stand; or the refusal's number with the
+// octet that it is about, 0 for 1 and 2.
 pub fn read(message: &[u8]) -> Reading
     ensures { λ r. ⌜ callTold r ≡ callReadOf (now (message .entry)) ⌝ }
 {
@@ -56,7 +59,8 @@ pub fn read(message: &[u8]) -> Reading
     }
 }
 
-// Writes a message in its compact form: fills the front of `out` and keeps the rest, and answers how many octets were written.
+// Writes a message in its compact form: fills the front of `out` and keeps the rest, and answers
+// how many octets were written.
 // Refused with 3, 10, 11, 12, 2, 13 in that order, and then `out` holds what it held.
 pub fn write(
     code: u32,
@@ -67,7 +71,9 @@ pub fn write(
     optional: &[u8],
     out: &mut [u8],
 ) -> Written
-    ensures { λ r. ⌜ leaving (writtenTold r) (now (out .exit)) ≡ callWriteOf code kind (now (fixed .entry)) (now (first .entry)) (now (second .entry)) (now (optional .entry)) (now (out .entry)) ⌝ }
+    ensures { λ r. ⌜ leaving (writtenTold r) (now (out .exit)) ≡
+        callWriteOf code kind (now (fixed .entry)) (now (first .entry)) (now (second .entry))
+        (now (optional .entry)) (now (out .entry)) ⌝ }
 {
     if 255 < kind {
         return Written::Refused(3, 0);
@@ -101,10 +107,13 @@ pub fn write(
     }
 }
 
-// Reads a message and writes it again, in its compact form: fills the front of `out` and keeps the rest, and answers how many octets were written.
-// Refused with the reader's numbers and octets, then 12, then 13, and then `out` holds what it held.
+// Reads a message and writes it again, in its compact form: fills the front of `out` and keeps the
+// rest, and answers how many octets were written.
+// Refused with the reader's numbers and octets, then 12, then 13, and then
+// `out` holds what it held.
 pub fn compact(message: &[u8], out: &mut [u8]) -> Written
-    ensures { λ r. ⌜ leaving (writtenTold r) (now (out .exit)) ≡ callCompactOf (now (message .entry)) (now (out .entry)) ⌝ }
+    ensures { λ r. ⌜ leaving (writtenTold r) (now (out .exit)) ≡
+        callCompactOf (now (message .entry)) (now (out .entry)) ⌝ }
 {
     let row = shape_of(heads::kind_at(message, 4));
     let head = header(message);

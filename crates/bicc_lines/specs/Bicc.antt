@@ -16,7 +16,8 @@ use Rattle.read_lines.specs.Read.{shapeLine, partsLine}
 
 -- code 305419896 type 01, and its parts; or the refusal with its octet
 unfoldable pub codeLine : List ℕ → Answer Message → List ℕ
-codeLine m (accepted x) = counted "code " (x .code) ++ shown " type " (x .kind ∷ []) ++ partsLine m (x .parts)
+codeLine m (accepted x) =
+    counted "code " (x .code) ++ shown " type " (x .kind ∷ []) ++ partsLine m (x .parts)
 codeLine m (refused n at) = faultLine n at
 
 -- the line of a row of the family, by what its fields say; bicc-compact is its last
@@ -24,5 +25,6 @@ unfoldable pub biccLine : ℕ → List FieldSays → List ℕ
 biccLine which gs =
     if eqb which BICC-SHAPE then shapeLine (callShapeOf (octetAt gs 0))
     else if eqb which BICC-READ then codeLine (octetsAt gs 0) (callReadOf (octetsAt gs 0))
-    else if eqb which BICC-WRITE then octetsLine (callWriteOf (numberAt gs 0) (numberAt gs 1) (octetsAt gs 2) (octetsAt gs 3) (octetsAt gs 4) (octetsAt gs 5) (lent (numberAt gs 6)))
+    else if eqb which BICC-WRITE
+    then octetsLine (callWriteOf (numberAt gs 0) (numberAt gs 1) (octetsAt gs 2) (octetsAt gs 3) (octetsAt gs 4) (octetsAt gs 5) (lent (numberAt gs 6)))
     else compactLine (callCompactOf (octetsAt gs 0) (lent (numberAt gs 1)))

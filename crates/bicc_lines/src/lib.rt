@@ -18,7 +18,9 @@ use requests::Request;
 
 // What a message says that reads so.
 fn say_message(message: &[u8], x: Message, out: &mut [u8]) -> usize
-    ensures { λ r. ⌜ sheet (now (out .exit)) r ≡ pour (sheet (now (out .entry)) 0) (codeLine (now (message .entry)) (callTold (Reading.Read x))) ⌝ }
+    ensures { λ r. ⌜ sheet (now (out .exit)) r ≡
+        pour (sheet (now (out .entry)) 0)
+        (codeLine (now (message .entry)) (callTold (Reading.Read x))) ⌝ }
 {
     let parts = x.parts;
     let code = sayings::put_count(b"code ", x.code as usize, out, 0);
@@ -28,7 +30,9 @@ fn say_message(message: &[u8], x: Message, out: &mut [u8]) -> usize
 
 // Says what a message says, or the refusal with its octet.
 fn say_read(message: &[u8], out: &mut [u8]) -> usize
-    ensures { λ r. ⌜ sheet (now (out .exit)) r ≡ pour (sheet (now (out .entry)) 0) (codeLine (now (message .entry)) (callReadOf (now (message .entry)))) ⌝ }
+    ensures { λ r. ⌜ sheet (now (out .exit)) r ≡
+        pour (sheet (now (out .entry)) 0)
+        (codeLine (now (message .entry)) (callReadOf (now (message .entry)))) ⌝ }
 {
     match bicc_codec::read(message) {
         Reading::Refused(n, at) => sayings::say_fault(n, at, out),
@@ -40,8 +44,10 @@ fn say_read(message: &[u8], out: &mut [u8]) -> usize
 fn say_write(fields: [Field; 8], octets: &[u8], out: &mut [u8]) -> usize
     ensures { λ r. ⌜ sheet (now (out .exit)) r ≡ pour (sheet (now (out .entry)) 0)
         (octetsLine (callWriteOf (numberAt (saidIn (now (octets .entry)) fields) 0) (numberAt (saidIn (now (octets .entry)) fields) 1)
-        (octetsAt (saidIn (now (octets .entry)) fields) 2) (octetsAt (saidIn (now (octets .entry)) fields) 3)
-        (octetsAt (saidIn (now (octets .entry)) fields) 4) (octetsAt (saidIn (now (octets .entry)) fields) 5)
+        (octetsAt (saidIn (now (octets .entry)) fields) 2)
+        (octetsAt (saidIn (now (octets .entry)) fields) 3)
+        (octetsAt (saidIn (now (octets .entry)) fields) 4)
+        (octetsAt (saidIn (now (octets .entry)) fields) 5)
         (lent (numberAt (saidIn (now (octets .entry)) fields) 6)))) ⌝ }
 {
     let code = fields[0];
@@ -81,9 +87,12 @@ fn say_compact(fields: [Field; 8], octets: &[u8], out: &mut [u8]) -> usize
     sayings::say_again(written, buffer, out)
 }
 
-// Puts the answer's line to one of BICC's requests at the front of `out`, and answers the next place. What `out` has no room for is left out.
+// Puts the answer's line to one of BICC's requests at the front of `out`, and answers the next
+// place. What `out` has no room for is left out.
 pub fn bicc_line(request: Request, octets: &[u8], out: &mut [u8]) -> usize
-    ensures { λ r. ⌜ sheet (now (out .exit)) r ≡ pour (sheet (now (out .entry)) 0) (biccLine (request .which) (saidIn (now (octets .entry)) (request .fields))) ⌝ }
+    ensures { λ r. ⌜ sheet (now (out .exit)) r ≡
+        pour (sheet (now (out .entry)) 0)
+        (biccLine (request .which) (saidIn (now (octets .entry)) (request .fields))) ⌝ }
 {
     let fields = request.fields;
     if request.which == BICC_SHAPE {

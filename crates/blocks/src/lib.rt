@@ -1,4 +1,5 @@
-// The totals of the blocks: counted anew after a call, rebuilt from the rows, and asked how many circuits are busy.
+// The totals of the blocks: counted anew after a call, rebuilt from the rows,
+// and asked how many circuits are busy.
 ghost use mathlib.Core.Path.{_≡_};
 ghost use Prim.Native.Nat.{_+_, _*_, _≤_, _<_};
 ghost use lib.ListN.{length};
@@ -49,7 +50,8 @@ fn block_count(states: &[u8], block: usize) -> u8
 
 // Counts the blocks from the first to the last anew, wherever states and totals end.
 fn count_any(states: &[u8], totals: &mut [u8], first: usize, last: usize)
-    ensures { λ r. ⌜ now (totals .exit) ≡ blocksCounted (now (states .entry)) first last (now (totals .entry)) ⌝ }
+    ensures { λ r. ⌜ now (totals .exit) ≡
+        blocksCounted (now (states .entry)) first last (now (totals .entry)) ⌝ }
 {
     let mut block = first;
     while block < totals.len() {
@@ -64,7 +66,8 @@ fn count_any(states: &[u8], totals: &mut [u8], first: usize, last: usize)
 // Counts the blocks from the first to the last anew, where all their rows and totals are there.
 fn count_whole(states: &[u8], totals: &mut [u8], first: usize, last: usize)
     requires { ⌜ (last < length (now totals)) × (64 * last + 64 ≤ length (now states)) ⌝ }
-    ensures { λ r. ⌜ now (totals .exit) ≡ blocksCounted (now (states .entry)) first last (now (totals .entry)) ⌝ }
+    ensures { λ r. ⌜ now (totals .exit) ≡
+        blocksCounted (now (states .entry)) first last (now (totals .entry)) ⌝ }
 {
     let mut block = first;
     while block <= last {
@@ -73,9 +76,11 @@ fn count_whole(states: &[u8], totals: &mut [u8], first: usize, last: usize)
     }
 }
 
-// Makes the total of each block that holds one of the circuits from the first to the last the count of its rows, as many of them as there are totals; every other total stays.
+// Makes the total of each block that holds one of the circuits from the first to the last the count
+// of its rows, as many of them as there are totals; every other total stays.
 pub fn recount(states: &[u8], totals: &mut [u8], first: usize, last: usize)
-    ensures { λ r. ⌜ now (totals .exit) ≡ recounted (now (states .entry)) first last (now (totals .entry)) ⌝ }
+    ensures { λ r. ⌜ now (totals .exit) ≡
+        recounted (now (states .entry)) first last (now (totals .entry)) ⌝ }
 {
     if last / 64 < totals.len() {
         if last / 64 < states.len() / 64 {
@@ -86,9 +91,11 @@ pub fn recount(states: &[u8], totals: &mut [u8], first: usize, last: usize)
     count_any(states, totals, first / 64, last / 64);
 }
 
-// Makes every total the count of its rows, whatever it was: 64 totals are written. Refused with 16 where there are not 4096 states and 64 totals; a refusal keeps the totals.
+// Makes every total the count of its rows, whatever it was: 64 totals are written. Refused with 16
+// where there are not 4096 states and 64 totals; a refusal keeps the totals.
 pub fn rebuild(states: &[u8], totals: &mut [u8]) -> Written
-    ensures { λ r. ⌜ leaving (writtenTold r) (now (totals .exit)) ≡ rebuildOf (now (states .entry)) (now (totals .entry)) ⌝ }
+    ensures { λ r. ⌜ leaving (writtenTold r) (now (totals .exit)) ≡
+        rebuildOf (now (states .entry)) (now (totals .entry)) ⌝ }
 {
     if states.len() != CIRCUITS {
         return Written::Refused(16, 0);
@@ -114,9 +121,11 @@ fn blocks_sum(totals: &[u8], first: usize, count: usize) -> usize
     sum
 }
 
-// How many of the circuits from the first to the last are busy: whole blocks by their totals, and only the loose rows before and after them one by one.
+// How many of the circuits from the first to the last are busy: whole blocks by their totals, and
+// only the loose rows before and after them one by one.
 fn count_between(states: &[u8], totals: &[u8], first: usize, last: usize) -> Count
-    requires { ⌜ (length (now states) ≡ 4096) × (length (now totals) ≡ 64) × (first ≤ last) × (last ≤ 4095) ⌝ }
+    requires { ⌜ (length (now states) ≡ 4096) × (length (now totals) ≡ 64) × (first ≤ last)
+        × (last ≤ 4095) ⌝ }
     ensures { λ r. ⌜ r ≡ countBetween (now (states .entry)) (now (totals .entry)) first last ⌝ }
 {
     let from = (first + 63) / 64;
@@ -140,10 +149,13 @@ fn count_between(states: &[u8], totals: &[u8], first: usize, last: usize) -> Cou
     }
 }
 
-// How many of the circuits from the first to the last are busy by the totals and the loose rows, and how many numbers were looked at, 188 at the most.
-// Refused in order: 16 where there are not 4096 states and 64 totals, 9 where the last is above 4095, 18 where the first is above the last.
+// How many of the circuits from the first to the last are busy by the totals and the loose rows,
+// and how many numbers were looked at, 188 at the most.
+// Refused in order: 16 where there are not 4096 states and 64 totals, 9 where the last is above
+// 4095, 18 where the first is above the last.
 pub fn busy_between(states: &[u8], totals: &[u8], first: u32, last: u32) -> Asked
-    ensures { λ r. ⌜ askedTold r ≡ busyBetween (now (states .entry)) (now (totals .entry)) first last ⌝ }
+    ensures { λ r. ⌜ askedTold r ≡
+        busyBetween (now (states .entry)) (now (totals .entry)) first last ⌝ }
 {
     if states.len() != CIRCUITS {
         return Asked::Refused(16);

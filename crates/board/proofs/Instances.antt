@@ -1,4 +1,5 @@
--- The hypotheses of the laws can be met: for each law that speaks of accepted calls one sample, on concrete octets and tables.
+-- The hypotheses of the laws can be met: for each law that speaks of accepted calls one sample, on
+-- concrete octets and tables.
 use Prim.Native.Nat.{ℕ, zero, suc, _+_, _≤_}
 use mathlib.Core.Path.{_≡_, refl, sym, _∙_, ap, subst}
 use mathlib.Core.Bool.{Bool, true, false, not}
@@ -130,7 +131,8 @@ ready-after s e w = (
       (call-legal (owned 1) (owned 0) e zeros (s .rows) c (w .2 c h)),
 )
 
--- there a message on circuits 0 and 1 is accepted, where IAM's circuit is free and the answer has room
+-- there a message on circuits 0 and 1 is accepted, where IAM's circuit is
+-- free and the answer has room
 accepts : (s : Standings) (m : List ℕ) (a : Ask) (n : ℕ) → Ready s → askOf m ≡ accepted a → a .circuit + a .range ≤ 1 → isTaken (s .rows) (a .act) (a .circuit) ≡ false
     → replyLength (a .act) (a .range) (octet (s .rows) (a .circuit)) ≡ n → n ≤ 268 → Takes s m n
 unfolding isUnhelpable
@@ -152,7 +154,8 @@ accepts s m a n w e last free size room =
     owner true e = refl
     owner false e = e
 
--- where the tables are ready each message on both circuits is accepted, and IAM where circuit 1 is idle
+-- where the tables are ready each message on both circuits is accepted, and
+-- IAM where circuit 1 is idle
 takes : (s : Standings) → Ready s
     → Takes s page₁ 8 × Takes s page₂ 8 × Takes s pages 8 × Takes s faulty 8 × Takes s mended 8 × Takes s reset 7 × (octet (s .rows) 1 ≡ 0 → Takes s seizeNext 0)
 unfolding replyLength
@@ -173,7 +176,8 @@ idle-ready = ready 0 (inl refl)
 then-ready : (m : List ℕ) → Ready (by allIdle m)
 then-ready m = ready-after allIdle (heard 1 m) idle-ready
 
--- two pages of one block, one after the other, and one page with the marks of both: all three are accepted, and the one leaves what the two leave (`cgb-united`)
+-- two pages of one block, one after the other, and one page with the marks of both: all three are
+-- accepted, and the one leaves what the two leave (`cgb-united`)
 pub pages-merge : Takes allIdle page₁ 8 × Takes (by allIdle page₁) page₂ 8 × Takes allIdle pages 8 × (by allIdle pages ≡ by (by allIdle page₁) page₂)
 unfolding markOf bitAt
 pages-merge =
@@ -208,7 +212,8 @@ reset-swallows =
     reset (asked ResetGroup 0 0) (asks .5) refl (omega arith) (omega arith) zeros zeros 7 7 late alone in
     (ok, late, alone, u)
 
--- CGB for maintenance and then for hardware, on circuit 0: its row is 6, and neither of the two alone, which are accepted, leaves these rows (`two-kinds-no-one`)
+-- CGB for maintenance and then for hardware, on circuit 0: its row is 6, and neither of the two
+-- alone, which are accepted, leaves these rows (`two-kinds-no-one`)
 pub two-kinds-happen : Takes allIdle page₁ 8 × Takes (by allIdle page₁) faulty 8 × Takes allIdle faulty 8 × (octet (by (by allIdle page₁) faulty .rows) 0 ≡ 6)
     × (by allIdle page₁ .rows ≡ by (by allIdle page₁) faulty .rows → ⊥) × (by allIdle faulty .rows ≡ by (by allIdle page₁) faulty .rows → ⊥)
 unfolding markOf bitAt changedRow blockedRow
@@ -227,7 +232,8 @@ two-kinds-happen =
     refl refl g refl refl there there refl refl refl ok₁ ok₂ ok in
     (ok₁, ok₂, ok₃, six, no-one page₁ a₁ (asks .0) refl ok₁, no-one faulty a₂ (asks .3) refl ok₃)
 
--- CGB and then CGU for hardware on circuit 0, which is busy before and idle afterwards (`hardware-ends-busy`)
+-- CGB and then CGU for hardware on circuit 0, which is busy before and idle
+-- afterwards (`hardware-ends-busy`)
 pub hardware-ends : Takes (standing 1) faulty 8 × Takes (by (standing 1) faulty) mended 8 × (octet (by (by (standing 1) faulty) mended .rows) 0 ≡ 0)
 unfolding markOf bitAt
 hardware-ends =
@@ -254,7 +260,8 @@ desk-stays =
     let ok = takes (leftIn desked) (ready-after allIdle (ours 0 true) idle-ready) .5 in
     (set, ok, desk-not-swallowed (owned 1) (owned 0) allIdle 0 zeros 3 1 reset zeros (asked ResetGroup 0 0) 7 set (asks .5) refl (omega arith, omega arith) ok)
 
--- GRS on circuits 0 and 1 and IAM on circuit 1 are accepted in either order, and the two orders leave different rows (`group-touches`)
+-- GRS on circuits 0 and 1 and IAM on circuit 1 are accepted in either order, and the two orders
+-- leave different rows (`group-touches`)
 pub group-touches-so : Takes allIdle reset 7 × Takes (by allIdle reset) seizeNext 0 × Takes allIdle seizeNext 0 × Takes (by allIdle seizeNext) reset 7
     × (by (by allIdle reset) seizeNext .rows ≡ by (by allIdle seizeNext) reset .rows → ⊥)
 unfolding markOf changedRow

@@ -29,14 +29,16 @@ kept-judges states totals buffer named r {P} {fs} j = go (eqb (length totals) 64
     go true e = judges-first (λ p. inl p) (λ w. ⊎-elim (λ p. p) (λ n. absurd (n (eqb-true _ _ e))) w) j
     go false e = judges-there (fault 16 0 (P ⊎ WrongTotals totals)) fs 0 (refl, inr (eqb-false _ _ e)) (λ at h. h .0)
 
--- of a message: refused with the first of 16, the reader's, 17, 14, 18, 19, 22, 20, 21, 13 that is there, and accepted exactly where there is none
+-- of a message: refused with the first of 16, the reader's, 17, 14, 18, 19, 22, 20, 21, 13 that is
+-- there, and accepted exactly where there is none
 pub board-judges : (T : Tables) (totals : List ℕ) (sender : ℕ) (m buffer : List ℕ) → Judges (boardOf T totals sender m buffer .answer) (boardFaults T totals sender m (length buffer))
 unfolding boardOf
 board-judges T totals sender m buffer =
     kept-judges (T .states) totals buffer (withCircuits (askOf m)) (actOf T sender m buffer)
     (record { refuses = act-refuses-exactly T sender m buffer; accepts = act-accepts-exactly T sender m buffer })
 
--- of a desk call: refused with the first of 16, 9, 20, 13 that is there, and accepted exactly where there is none
+-- of a desk call: refused with the first of 16, 9, 20, 13 that is there, and
+-- accepted exactly where there is none
 pub desk-board-judges : (states totals : List ℕ) (circuit : ℕ) (set : Bool) (buffer : List ℕ) → Judges (deskBoardOf states totals circuit set buffer .answer) (deskBoardFaults states totals circuit (length buffer))
 unfolding deskBoardOf
 desk-board-judges states totals circuit set buffer =

@@ -1,4 +1,5 @@
--- What a call leaves with the totals kept: the totals in the request's words, a refusal keeps all, and the contracts determine all.
+-- What a call leaves with the totals kept: the totals in the request's words, a refusal keeps all,
+-- and the contracts determine all.
 use Prim.Native.Nat.{ℕ, _+_, _*_, _/_, _≤_, _<_}
 use mathlib.Core.Path.{_≡_, refl, sym, _∙_, ap, subst}
 use mathlib.Core.Bool.{Bool, true, false}
@@ -116,7 +117,8 @@ module _ (T : Tables) (totals : List ℕ) (sender : ℕ) (m buffer : List ℕ) w
       go true r e = e
       go false r e = refl
 
-  -- after an accepted message each block that holds a named circuit has its total equal to its rows' count, whatever it was
+  -- after an accepted message each block that holds a named circuit has its total equal to its
+  -- rows' count, whatever it was
   pub named-totals-right : (n : ℕ) → boardOf T totals sender m buffer .answer ≡ accepted n → (c : ℕ) → Names m c → Right (boardOf T totals sender m buffer .states) (boardOf T totals sender m buffer .totals) (c / 64)
   named-totals-right n e c w =
       let d = board-totals n e in
@@ -237,7 +239,8 @@ module _ (states totals : List ℕ) (circuit : ℕ) (set : Bool) (buffer : List 
       go true r e = e
       go false r e = refl
 
-  -- after an accepted desk call the total of its circuit's block is the count of its rows, whatever it was
+  -- after an accepted desk call the total of its circuit's block is the count
+  -- of its rows, whatever it was
   pub desk-total-right : (n : ℕ) → deskBoardOf states totals circuit set buffer .answer ≡ accepted n → Right (deskBoardOf states totals circuit set buffer .states) (deskBoardOf states totals circuit set buffer .totals) (circuit / 64)
   desk-total-right n e =
       let d = desk-board-totals n e in

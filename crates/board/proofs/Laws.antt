@@ -1,4 +1,5 @@
--- Laws of the group messages, of the rows and the totals that they leave: over any range, any layout of the messages and any tables.
+-- Laws of the group messages, of the rows and the totals that they leave: over any range, any
+-- layout of the messages and any tables.
 use Prim.Native.Nat.{ℕ, _+_, _-_, _*_, _/_, _%_, _≤_, _<_}
 use mathlib.Core.Path.{_≡_, refl, sym, _∙_, ap, subst}
 use mathlib.Core.Bool.{Bool, true, false}
@@ -187,7 +188,8 @@ reset-row m a c row row′ g z l =
     (λ i. rowOf (g i) (a .block) (markOf m (z i) (c - a .circuit)) row′) ∙ ap (λ (n : ℕ). n * 8) l ∙ sym (λ i. rowOf (g i) (a .block) (markOf m (z i) (c - a .circuit)) row)
 
 module _ (owners helpers : List ℕ) where
-  -- the rows of circuits that were legal are legal after a message, so 20 is not there where it was not
+  -- the rows of circuits that were legal are legal after a message, so 20 is
+  -- not there where it was not
   legal-after : (s : Standings) (sender : ℕ) (m b : List ℕ) (circuit n : ℕ) → isFound (firstIllegal (s .rows) circuit n) ≡ false → isFound (firstIllegal (actOf (at owners helpers s) sender m b .states) circuit n) ≡ false
   legal-after s sender m b circuit n e =
       none-found (λ c. isLegal (octet (actOf (at owners helpers s) sender m b .states) c)) circuit n
@@ -205,7 +207,8 @@ module _ (owners helpers : List ℕ) where
       sym (ap isLegal k) ∙ found-none (λ c. isLegal (octet (actOf (at owners helpers s) sender m b .states) c)) circuit n e j p q)
       (decided (isLegal (octet (s .rows) j))))
 
-  -- two CGB of one kind on the same circuits and range leave what one CGB with their marks united leaves: it is accepted where its buffer has room
+  -- two CGB of one kind on the same circuits and range leave what one CGB with their marks united
+  -- leaves: it is accepted where its buffer has room
   pub cgb-united : (s : Standings) (p q : ℕ) (m₁ m₂ m₃ b₁ b₂ b₃ : List ℕ) (a₁ a₂ a₃ : Ask) (n₁ n₂ : ℕ)
       → askOf m₁ ≡ accepted a₁ → askOf m₂ ≡ accepted a₂ → askOf m₃ ≡ accepted a₃
       → a₁ .act ≡ BlockGroup → a₂ .act ≡ BlockGroup → a₃ .act ≡ BlockGroup

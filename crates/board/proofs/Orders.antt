@@ -80,7 +80,8 @@ first-same e = cc
 second-same : {a b c d : ℕ} → a ∷ b ∷ [] ≡ c ∷ d ∷ [] → b ≡ d
 second-same e = cc
 
--- the two facts, for every table, buffer, sender number and circuit: no answer looks at a total, but for how many there are
+-- the two facts, for every table, buffer, sender number and circuit: no answer looks at a total,
+-- but for how many there are
 pub board-apart : (owners helpers : List ℕ) → Apart (board owners helpers)
 board-apart owners helpers = record {
   sees = λ c s t w. sees (c .asks) (c .buffer) s t (first-same (w .0)) (second-same (w .0)) (w .1) (eqb (length (s .totals)) 64) refl;
@@ -205,7 +206,8 @@ refusing owners helpers a buffer states n at q = go a (doneBy owners helpers a b
     go (ours circuit set) (accepted k) h = absurd (refused-accepted (sym h))
     go (ours circuit set) (refused k place) h = let s = refused-same h in λ i. refused (s .0 i) (s .1 i)
 
--- the board's totals, as those of any calls: what each should be by the rows, and which calls set it
+-- the board's totals, as those of any calls: what each should be by the
+-- rows, and which calls set it
 unfoldable pub board-counts : (owners helpers : List ℕ) → Totals (board owners helpers)
 board-counts owners helpers = record {
   total = λ s k. octet (s .totals) k;
@@ -279,7 +281,8 @@ board-counts owners helpers = record {
             )
 
 -- ---- demand 3
--- where no two different parties of the list have a right on the same circuit, any two merges of the same lists end in the same rows and the same totals, with the same answer for each call
+-- where no two different parties of the list have a right on the same circuit, any two merges of
+-- the same lists end in the same rows and the same totals, with the same answer for each call
 pub order-does-not-matter-counted : (owners helpers : List ℕ) (cs ds : List Call) (ls : ℕ → List Call) (s : Standings) → Merged (board owners helpers) cs ls → Merged (board owners helpers) ds ls → Separate (board owners helpers) cs
     → (stateAfter (board owners helpers) cs s ≡ stateAfter (board owners helpers) ds s) × ((party : ℕ) → answersOf (board owners helpers) party cs s ≡ answersOf (board owners helpers) party ds s)
 unfolding board-counts
@@ -302,7 +305,8 @@ pub order-counted-with-no-helpers : (owners helpers : List ℕ) → ((i : ℕ) �
     → (stateAfter (board owners helpers) cs s ≡ stateAfter (board owners helpers) ds s) × ((party : ℕ) → answersOf (board owners helpers) party cs s ≡ answersOf (board owners helpers) party ds s)
 order-counted-with-no-helpers owners helpers none cs ds ls s m n = order-does-not-matter-counted owners helpers cs ds ls s m n (no-helpers owners helpers none cs)
 
--- at the end a total is the count of the final rows if some accepted call named a circuit of its block, else what it was: no total is in a party's hands
+-- at the end a total is the count of the final rows if some accepted call named a circuit of its
+-- block, else what it was: no total is in a party's hands
 pub totals-settled : (owners helpers : List ℕ) (cs : List Call) (s : Standings) (k : ℕ)
     → octet (stateAfter (board owners helpers) cs s .totals) k ≡ (if touched (board owners helpers) (board-counts owners helpers) cs s k then blockCount (stateAfter (board owners helpers) cs s .rows) k else octet (s .totals) k)
 unfolding board-counts
@@ -328,7 +332,8 @@ pub board-is-desk : (owners helpers : List ℕ) (circuit : ℕ) (set : Bool) (bu
     × (board owners helpers .after c s .totals ≡ r .totals)
 board-is-desk owners helpers circuit set buffer s = (refl, refl, refl, refl)
 
--- the rules at every call, with no condition: what it leaves, and its answer, are those at the rows and totals that the calls before it left
+-- the rules at every call, with no condition: what it leaves, and its answer, are those at the rows
+-- and totals that the calls before it left
 pub counted-in-order : (owners helpers : List ℕ) (cs ds : List Call) (c : Call) (s : Standings)
     → (stateAfter (board owners helpers) (cs ++ (c ∷ [])) s ≡ board owners helpers .after c (stateAfter (board owners helpers) cs s))
     × (answers (board owners helpers) (cs ++ (c ∷ ds)) s ≡ answers (board owners helpers) cs s ++ (board owners helpers .answer c (stateAfter (board owners helpers) cs s) ∷ answers (board owners helpers) ds (board owners helpers .after c (stateAfter (board owners helpers) cs s))))

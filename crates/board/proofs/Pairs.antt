@@ -1,4 +1,5 @@
--- Two calls that name no circuit in common give the same tables and the same answers in either order, whoever sends them.
+-- Two calls that name no circuit in common give the same tables and the same answers in either
+-- order, whoever sends them.
 use Prim.Native.Nat.{ℕ, _+_, _≤_, _<_}
 use mathlib.Core.Path.{_≡_, refl, sym, _∙_, ap}
 use mathlib.Core.Bool.{Bool, true, false}
@@ -214,7 +215,8 @@ module _ (owners helpers : List ℕ) where
       (λ w. (p, q, eqb-true i circuit (w .1), ltb-false 4095 circuit (w .0)))
       (chosen (ltb 4095 circuit) h)
 
-  -- a message names circuits exactly where nothing that is looked for before 19 is there: not 16, none of the reader's, not 17, 14 or 18
+  -- a message names circuits exactly where nothing that is looked for before 19 is there: not 16,
+  -- none of the reader's, not 17, 14 or 18
   pub names-exactly : (s : Standings) (sender : ℕ) (m : List ℕ)
       → ((i : ℕ) × NamesAt owners helpers s (heard sender m) i) ↔ None (fault 16 0 (WrongTables (tables (s .rows) owners helpers) ⊎ WrongTotals (s .totals)) ∷ askFaults m)
   names-exactly s sender m = (
@@ -254,7 +256,8 @@ module _ (owners helpers : List ℕ) where
       × (board owners helpers .answer c s ≡ board owners helpers .answer c (board owners helpers .after d s))
       × (board owners helpers .answer d (board owners helpers .after c s) ≡ board owners helpers .answer d s)
 
-  -- two calls, whoever sends them, each with its own answer buffer: the same rows and totals, and the same answers, in either order
+  -- two calls, whoever sends them, each with its own answer buffer: the same rows and totals, and
+  -- the same answers, in either order
   pub calls-commute : (s : Standings) (c d : Call) → Apart-at s c d
       → Either-order s c d
   unfolding board-counts

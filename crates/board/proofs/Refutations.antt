@@ -36,7 +36,8 @@ use Rattle.board.proofs.Pairs.{calls-commute}
 abbrev oneBusy : List ℕ
 oneBusy = 1 ∷ replicate 63 0
 
--- a refusal that counts anew: with no rows at all the call is 16, and the wrong total of the first block has to stay
+-- a refusal that counts anew: with no rows at all the call is 16, and the wrong
+-- total of the first block has to stay
 pub refusal-recounts-refuted : boardAfter (refused 16 0) [] (recounted [] 0 0 oneBusy) [] ≡ boardOf (tables [] [] []) oneBusy 0 [] [] → ⊥
 unfolding total
 refusal-recounts-refuted e =
@@ -52,7 +53,8 @@ pub stepped-refuted : (T : Tables) (totals : List ℕ) (sender : ℕ) (m buffer 
 stepped-refuted T totals sender m buffer n e c w wrong s = wrong (sym s ∙ named-totals-right T totals sender m buffer n e c w)
 
 -- ---- two calls on one circuit: the order matters, so the condition of `calls-commute` is needed
--- every circuit idle but for circuit 0, which has that row; the totals count the busy ones where it is 0 or 1
+-- every circuit idle but for circuit 0, which has that row; the totals count
+-- the busy ones where it is 0 or 1
 abbrev pub standing : ℕ → Standings
 standing first = record { rows = rows first; totals = first ∷ replicate 63 0 }
 

@@ -54,7 +54,8 @@ module _ (owners helpers : List ℕ) where
       let d = call-accepted (tables (s .rows) owners helpers) p m b n (sym (h .0) ∙ ok) in
       ap (λ (l : List ℕ). octet l c) (h .1 ∙ d .rows ∙ ap (λ (x : Ask). rowsAfter m x (s .rows)) (accepted-same (sym (d .allowed .asks) ∙ e))) ∙ row-outside m a (s .rows) c w
 
-  -- GRS and IAM on any circuit of its group, the first or not: one order leaves it idle, the other busy. So naming the first circuit of a group alone would not do
+  -- GRS and IAM on any circuit of its group, the first or not: one order leaves it idle, the other
+  -- busy. So naming the first circuit of a group alone would not do
   pub group-touches : (s : Standings) (p q : ℕ) (g m b d : List ℕ) (y a : Ask) (n₁ n₂ n₃ n₄ : ℕ)
       → askOf g ≡ accepted y → y .act ≡ ResetGroup → askOf m ≡ accepted a → a .act ≡ Seize → Named y (a .circuit)
       → heardBy owners helpers s p g b .answer ≡ accepted n₁ → heardBy owners helpers (leftIn (heardBy owners helpers s p g b)) q m d .answer ≡ accepted n₂

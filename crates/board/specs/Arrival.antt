@@ -1,4 +1,5 @@
--- A list of calls on one table of rows and one of totals, over owners and helpers that do not change.
+-- A list of calls on one table of rows and one of totals, over owners and
+-- helpers that do not change.
 use Prim.Native.Nat.{ℕ}
 use mathlib.Core.List.{List, [], _∷_}
 use lib.ListN.{length}
@@ -23,8 +24,10 @@ namedBy (ours circuit set) = alone circuit
 
 -- what is done, each by the definition that `act` and `desk_call` are proved to meet
 abbrev pub keptBy : List ℕ → List ℕ → Event → List ℕ → Standings → BoardAfter
-keptBy owners helpers (heard sender message) buffer s = boardOf (tables (s .rows) owners helpers) (s .totals) sender message buffer
-keptBy owners helpers (ours circuit set) buffer s = deskBoardOf (s .rows) (s .totals) circuit set buffer
+keptBy owners helpers (heard sender message) buffer s =
+    boardOf (tables (s .rows) owners helpers) (s .totals) sender message buffer
+keptBy owners helpers (ours circuit set) buffer s =
+    deskBoardOf (s .rows) (s .totals) circuit set buffer
 
 -- the answer and the buffer of it
 abbrev pub repliedBy : BoardAfter → Reply

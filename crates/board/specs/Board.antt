@@ -22,9 +22,11 @@ pub record BoardAfter : Type 0 where
 
 -- the four together
 abbrev pub boardAfter : Answer ℕ → List ℕ → List ℕ → List ℕ → BoardAfter
-boardAfter answer states totals buffer = record { answer = answer; states = states; totals = totals; buffer = buffer }
+boardAfter answer states totals buffer =
+    record { answer = answer; states = states; totals = totals; buffer = buffer }
 
--- R56. the totals after a call, by the rows as they are then: where it is accepted each block that holds a named circuit is counted anew, and every other total stays
+-- R56. the totals after a call, by the rows as they are then: where it is accepted each block that
+-- holds a named circuit is counted anew, and every other total stays
 abbrev pub totalsAfter : List ℕ → Answer Deed → List ℕ → List ℕ
 totalsAfter rows (accepted d) totals = recounted rows (d .first) (d .last) totals
 totalsAfter rows (refused n at) totals = totals
@@ -37,7 +39,8 @@ keeping states totals buffer named r =
 
 -- a message from a sender: it names circuits m to m+r
 unfoldable pub boardOf : Tables → List ℕ → ℕ → List ℕ → List ℕ → BoardAfter
-boardOf T totals sender m buffer = keeping (T .states) totals buffer (withCircuits (askOf m)) (actOf T sender m buffer)
+boardOf T totals sender m buffer =
+    keeping (T .states) totals buffer (withCircuits (askOf m)) (actOf T sender m buffer)
 
 -- a desk call names its circuit
 abbrev pub alone : ℕ → Answer ℕ → Answer Deed
@@ -46,4 +49,5 @@ alone circuit (refused n at) = refused n at
 
 -- a desk call
 unfoldable pub deskBoardOf : List ℕ → List ℕ → ℕ → Bool → List ℕ → BoardAfter
-deskBoardOf states totals circuit set buffer = keeping states totals buffer (alone circuit) (deskOf states circuit set buffer)
+deskBoardOf states totals circuit set buffer =
+    keeping states totals buffer (alone circuit) (deskOf states circuit set buffer)

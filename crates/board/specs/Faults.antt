@@ -1,4 +1,5 @@
--- What a call can be refused for if the totals are lent too: the hub's numbers, and 16 also if there are not 64 totals.
+-- What a call can be refused for if the totals are lent too: the hub's numbers, and 16 also if
+-- there are not 64 totals.
 use Prim.Native.Nat.{ℕ, _<_}
 use mathlib.Core.Path.{_≡_}
 use mathlib.Core.List.{List, [], _∷_}
@@ -17,7 +18,8 @@ WrongTotals totals = length totals ≡ 64 → ⊥
 
 -- R56. of a message: 16, the reader's, 17, 14, 18, 19, 22, 20, 21, 13
 abbrev pub boardFaults : Tables → List ℕ → ℕ → List ℕ → ℕ → List Fault
-boardFaults T totals sender m room = fault 16 0 (WrongTables T ⊎ WrongTotals totals) ∷ pastTables T sender m room
+boardFaults T totals sender m room =
+    fault 16 0 (WrongTables T ⊎ WrongTotals totals) ∷ pastTables T sender m room
 
 -- of a desk call: 16, 9, 20, 13
 abbrev pub deskBoardFaults : List ℕ → List ℕ → ℕ → ℕ → List Fault

@@ -1,1 +1,2 @@
-// The calls of the hub and of the desk with the totals of busy circuits, their order of arrival, and the laws of the group messages: definitions and theorems alone.
+// The calls of the hub and of the desk with the totals of busy circuits, their order of arrival,
+// and the laws of the group messages: definitions and theorems alone.

@@ -33,7 +33,8 @@ entriesAwait n = if eqb n 0 then Done else Head n
 -- a span that is not ascending, not disjoint, beyond the circuits, or nobody's
 abbrev pub badSpan : ℕ → ℕ → ℕ → ℕ → Bool
 badSpan next first last sender =
-    if ltb first next then true else (if ltb last first then true else (if ltb 4095 last then true else eqb sender 0))
+    if ltb first next then true
+    else (if ltb last first then true else (if ltb 4095 last then true else eqb sender 0))
 
 -- whether all of a book has come
 abbrev pub isDone : Await → Bool

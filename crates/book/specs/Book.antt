@@ -44,9 +44,12 @@ entriesOctets (s ∷ ss) = headOctets s ++ (s .message ++ entriesOctets ss)
 
 -- R59. each section after its count, two octets, low first
 unfoldable pub bookOctets : Book → List ℕ
-bookOctets b = word (length (b .spans)) ++ (spansOctets (b .spans) ++ (word (length (b .entries)) ++ entriesOctets (b .entries)))
+bookOctets b =
+    word (length (b .spans))
+    ++ (spansOctets (b .spans) ++ (word (length (b .entries)) ++ entriesOctets (b .entries)))
 
--- R60. from circuit `next` on, first not above last, last at most 4095, a sender from 1 in one octet
+-- R60. from circuit `next` on, first not above last, last at most 4095, a
+-- sender from 1 in one octet
 pub record GoodSpan (next : ℕ) (s : Span) : Type 0 where
   pub above : next ≤ s .first
   pub upwards : s .first ≤ s .last

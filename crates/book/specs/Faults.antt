@@ -1,4 +1,5 @@
--- What is wrong with octets that are no book, in the paper's words: cut off, octets left over, a bad span, a message longer than 268.
+-- What is wrong with octets that are no book, in the paper's words: cut off, octets left over, a
+-- bad span, a message longer than 268.
 use Prim.Native.Nat.{ℕ, _+_, _<_, _≤_}
 use mathlib.Core.Path.{_≡_}
 use mathlib.Core.List.{List, [], _∷_, _++_}
@@ -34,7 +35,9 @@ pub record LongIn (xs : List ℕ) : Type 0 where
   pub fewer : length before < counted
   pub entries : AllEntries before
   pub long : 268 < size
-  pub whole : word (length spans) ++ (spansOctets spans ++ (word counted ++ (entriesOctets before ++ ((sender ∷ word size) ++ rest)))) ≡ xs
+  pub whole : word (length spans)
+      ++ (spansOctets spans
+      ++ (word counted ++ (entriesOctets before ++ ((sender ∷ word size) ++ rest)))) ≡ xs
 
 -- octets left over: a good book, and something after it
 pub record LeftOver (xs : List ℕ) : Type 0 where
@@ -46,15 +49,24 @@ pub record LeftOver (xs : List ℕ) : Type 0 where
 
 -- less than a message: less than its head, or a head and fewer octets than it says
 abbrev pub LessThanOne : List ℕ → Type 0
-LessThanOne tail = (length tail < 3) ⊎ ((sender : ℕ) × (size : ℕ) × (octets : List ℕ) × (size ≤ 268) × (length octets < size) × ((sender ∷ word size) ++ octets ≡ tail))
+LessThanOne tail =
+    (length tail < 3)
+    ⊎ ((sender : ℕ) × (size : ℕ) × (octets : List ℕ) × (size ≤ 268) × (length octets < size)
+    × ((sender ∷ word size) ++ octets ≡ tail))
 
 -- cut off: in the first count, in a span, in the second count, or in a message
 pub data CutOff (xs : List ℕ) : Type 0 where
   inCount : length xs < 2 → CutOff xs
-  inSpan : (counted : ℕ) (before : List Span) (tail : List ℕ) → length before < counted → Ascending 0 before → length tail < 5 → word counted ++ (spansOctets before ++ tail) ≡ xs → CutOff xs
-  inSecondCount : (spans : List Span) (tail : List ℕ) → Ascending 0 spans → length tail < 2 → word (length spans) ++ (spansOctets spans ++ tail) ≡ xs → CutOff xs
-  inMessage : (spans : List Span) (counted : ℕ) (before : List Recorded) (tail : List ℕ) → Ascending 0 spans → length before < counted → AllEntries before → LessThanOne tail
-      → word (length spans) ++ (spansOctets spans ++ (word counted ++ (entriesOctets before ++ tail))) ≡ xs → CutOff xs
+  inSpan : (counted : ℕ) (before : List Span) (tail : List ℕ) → length before < counted
+      → Ascending 0 before → length tail < 5 → word counted ++ (spansOctets before ++ tail) ≡ xs
+      → CutOff xs
+  inSecondCount : (spans : List Span) (tail : List ℕ) → Ascending 0 spans → length tail < 2
+      → word (length spans) ++ (spansOctets spans ++ tail) ≡ xs → CutOff xs
+  inMessage : (spans : List Span) (counted : ℕ) (before : List Recorded) (tail : List ℕ)
+      → Ascending 0 spans → length before < counted → AllEntries before → LessThanOne tail
+      → word (length spans)
+      ++ (spansOctets spans ++ (word counted ++ (entriesOctets before ++ tail))) ≡ xs
+      → CutOff xs
 
 -- R61. one of the four
 abbrev pub Faulty : List ℕ → Type 0

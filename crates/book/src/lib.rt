@@ -3,8 +3,10 @@ ghost use mathlib.Core.Path.{_≡_};
 ghost use Prim.Native.Nat.{_+_, _*_, _<_};
 ghost use Rattle.book.specs.Awaits.{wantOf, spansAwait, entriesAwait, badSpan};
 
-// What is awaited: a count of spans; a span, with how many are left and the first circuit that it may have; a count of messages; a message's head, with
-// how many are left; its octets, with how many messages are left, the sender and the message's length; nothing more; nothing, since the book is no book.
+// What is awaited: a count of spans; a span, with how many are left and the first circuit that it
+// may have; a count of messages; a message's head, with
+// how many are left; its octets, with how many messages are left, the sender and the message's
+// length; nothing more; nothing, since the book is no book.
 pub enum Await {
     SpanCount,
     Span(usize, usize),

@@ -1,4 +1,5 @@
--- Any two outcomes that a function's contract allows are equal: the number, and each lent octet afterwards.
+-- Any two outcomes that a function's contract allows are equal: the number,
+-- and each lent octet afterwards.
 use Prim.Native.Nat.{ℕ}
 use mathlib.Core.Path.{_≡_, sym, _∙_, ap}
 use mathlib.Core.List.{List}

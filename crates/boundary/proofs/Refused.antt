@@ -1,4 +1,5 @@
--- A refusal in the terms of the number that C sees: told from what is accepted by its size, with the refusal's own number, and all that was lent kept.
+-- A refusal in the terms of the number that C sees: told from what is accepted by its size, with
+-- the refusal's own number, and all that was lent kept.
 use Prim.Native.Nat.{ℕ, _+_, _*_, _/_, _%_, _≤_, _<_}
 use mathlib.Core.Path.{_≡_, refl, sym, _∙_, ap}
 use mathlib.Core.List.{List}
@@ -9,7 +10,8 @@ use Rattle.telling.specs.Telling.{packed}
 use Rattle.boundary.specs.Boundary.{Given, given, givenBy}
 use Rattle.boundary.specs.Refuses.{Refuses}
 
--- an answer whose values are below the unit, and whose refusals come times it, from 1 on, with an octet below it
+-- an answer whose values are below the unit, and whose refusals come times it,
+-- from 1 on, with an octet below it
 module _ {A : Type 0} (unit : ℕ) (up : (n : ℕ) → 1 ≤ n → unit ≤ unit * n) (halves : (n at : ℕ) → at < unit → ((unit * n + at) / unit ≡ n) × ((unit * n + at) % unit ≡ at)) (under : (k : ℕ) → k < unit → k / unit ≡ 0)
     (r : ℕ) (answer : Answer A) (lent left : List ℕ)
     (low : (a : A) → answer ≡ accepted a → r < unit) (high : (n at : ℕ) → answer ≡ refused n at → (r ≡ unit * n + at) × (1 ≤ n) × (at < unit)) (kept : (n at : ℕ) → answer ≡ refused n at → left ≡ lent) where

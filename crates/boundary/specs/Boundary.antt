@@ -26,7 +26,8 @@ givenBy d = given (packed (d .answer)) (d .left)
 abbrev pub fixedStart : Span → ℕ
 fixedStart s = if eqb (s .from) (s .to) then 0 else s .from
 
--- start and length of the fixed part, of the first and of the second contents, and of the optional run
+-- start and length of the fixed part, of the first and of the second
+-- contents, and of the optional run
 abbrev pub placesOf : Parts → List ℕ
 placesOf p =
     fixedStart (p .fixed) ∷ spanSize (p .fixed)
@@ -41,4 +42,6 @@ InSixteenBits s = (s .from ≤ s .to) × (s .to ≤ 65535)
 
 -- all parts of a message are so
 abbrev pub SmallParts : Parts → Type 0
-SmallParts p = InSixteenBits (p .fixed) × InSixteenBits (p .first) × InSixteenBits (p .second) × InSixteenBits (p .optional)
+SmallParts p =
+    InSixteenBits (p .fixed) × InSixteenBits (p .first) × InSixteenBits (p .second)
+    × InSixteenBits (p .optional)

@@ -1,4 +1,5 @@
--- What the requests about how many circuits are busy do (busy, totals, total, rebuild): the totals afterwards, and the answer's line. None of them changes a row.
+-- What the requests about how many circuits are busy do (busy, totals, total, rebuild): the totals
+-- afterwards, and the answer's line. None of them changes a row.
 use Prim.Native.Nat.{ℕ}
 use mathlib.Core.List.{List, _++_}
 use lib.Dec.{eqb}
@@ -40,12 +41,15 @@ busyAfter totals line = record { totals = totals; line = line }
 
 -- the totals counted anew, or the refusal
 abbrev pub rebuilt : List ℕ → List ℕ → BusyAfter
-rebuilt states totals = busyAfter (rebuildOf states totals .left) (rebuildLine (rebuildOf states totals .answer))
+rebuilt states totals =
+    busyAfter (rebuildOf states totals .left) (rebuildLine (rebuildOf states totals .answer))
 
--- the four requests, by what their fields say: busy and totals change nothing, total overwrites one, right or wrong, and rebuild, the family's last, counts all anew
+-- the four requests, by what their fields say: busy and totals change nothing, total overwrites
+-- one, right or wrong, and rebuild, the family's last, counts all anew
 unfoldable pub busyDone : List ℕ → List ℕ → ℕ → List FieldSays → BusyAfter
 busyDone states totals which gs =
-    if eqb which BUSY then busyAfter totals (busyLine (busyBetween states totals (numberAt gs 0) (numberAt gs 1)))
+    if eqb which BUSY
+    then busyAfter totals (busyLine (busyBetween states totals (numberAt gs 0) (numberAt gs 1)))
     else if eqb which TOTALS then busyAfter totals (shown "totals " totals)
     else if eqb which TOTAL then busyAfter (set totals (numberAt gs 0) (octetAt gs 1)) (said "ok")
     else rebuilt states totals

@@ -1,4 +1,5 @@
-// What the desk answers to the requests about how many circuits are busy (busy, totals, total, rebuild), and what they leave in the totals.
+// What the desk answers to the requests about how many circuits are busy (busy, totals, total,
+// rebuild), and what they leave in the totals.
 ghost use mathlib.Core.Path.{_≡_};
 ghost use mathlib.Core.List.{[]};
 ghost use lib.ListN.{set};
@@ -16,15 +17,19 @@ use totals::Count;
 
 // Puts a count with how many totals and rows were looked at for it, and answers the next place.
 fn say_count(count: Count, out: &mut [u8]) -> usize
-    ensures { λ r. ⌜ sheet (now (out .exit)) r ≡ pour (sheet (now (out .entry)) 0) (countLine count) ⌝ }
+    ensures { λ r. ⌜ sheet (now (out .exit)) r ≡
+        pour (sheet (now (out .entry)) 0) (countLine count) ⌝ }
 {
     let next = sayings::put_count(b"count ", count.count, out, 0);
     sayings::put_count(b" looked ", count.looked, out, next)
 }
 
-// Asks how many of the circuits from the first to the last are busy, puts the count or the refusal, and answers the next place.
+// Asks how many of the circuits from the first to the last are busy, puts the count or the refusal,
+// and answers the next place.
 fn say_busy(states: &[u8], totals: &[u8], first: u32, last: u32, out: &mut [u8]) -> usize
-    ensures { λ r. ⌜ sheet (now (out .exit)) r ≡ pour (sheet (now (out .entry)) 0) (busyLine (busyBetween (now (states .entry)) (now (totals .entry)) first last)) ⌝ }
+    ensures { λ r. ⌜ sheet (now (out .exit)) r ≡
+        pour (sheet (now (out .entry)) 0)
+        (busyLine (busyBetween (now (states .entry)) (now (totals .entry)) first last)) ⌝ }
 {
     match blocks::busy_between(states, totals, first, last) {
         Asked::Busy(count) => say_count(count, out),
@@ -44,7 +49,8 @@ fn overwrite(totals: &mut [u8], block: usize, value: u8)
 // Makes every total right, says so or puts the refusal, and answers the next place.
 fn say_rebuilt(states: &[u8], totals: &mut [u8], out: &mut [u8]) -> usize
     ensures { λ r. ⌜ busyLeft (now (totals .exit)) (sheet (now (out .exit)) r) ≡
-        busyLeftBy (rebuilt (now (states .entry)) (now (totals .entry))) (sheet (now (out .entry)) 0) ⌝ }
+        busyLeftBy (rebuilt (now (states .entry)) (now (totals .entry)))
+        (sheet (now (out .entry)) 0) ⌝ }
 {
     match blocks::rebuild(states, totals) {
         Written::Octets(_) => printing::put_text(b"ok", out, 0),
@@ -52,7 +58,8 @@ fn say_rebuilt(states: &[u8], totals: &mut [u8], out: &mut [u8]) -> usize
     }
 }
 
-// Does one of the requests about how many circuits are busy, puts its line at the front of `out`, and answers the next place. Its fields are numbers, so the scratch says nothing of them.
+// Does one of the requests about how many circuits are busy, puts its line at the front of `out`,
+// and answers the next place. Its fields are numbers, so the scratch says nothing of them.
 pub fn busy_turn(request: Request, states: &[u8], totals: &mut [u8], out: &mut [u8]) -> usize
     ensures { λ r. ⌜ busyLeft (now (totals .exit)) (sheet (now (out .exit)) r) ≡
         busyLeftBy (busyDone (now (states .entry)) (now (totals .entry)) (request .which) (saidIn [] (request .fields))) (sheet (now (out .entry)) 0) ⌝ }

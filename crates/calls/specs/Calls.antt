@@ -10,7 +10,8 @@ use Rattle.bicc.specs.Read.{callReadOf}
 use Rattle.bicc.specs.Faults.{callFaults}
 use Rattle.boundary.specs.Boundary.{placesOf}
 
--- code, type, then start and length of the fixed part, of the first and of the second contents, and of the optional run
+-- code, type, then start and length of the fixed part, of the first and of the
+-- second contents, and of the optional run
 abbrev pub callValuesOf : Message → List ℕ
 callValuesOf x = x .code ∷ x .kind ∷ placesOf (x .parts)
 

@@ -1,5 +1,6 @@
 // BICC for C and Rust: reading and writing. With `llachurep` and its like they are one library.
-// They are a crate of their own so that its object has one reader and one writer of parts, which the compiler puts where they are called.
+// They are a crate of their own so that its object has one reader and one writer of parts, which
+// the compiler puts where they are called.
 ghost use mathlib.Core.Path.{_≡_};
 ghost use Prim.Native.Nat.{_≤_};
 ghost use lib.ListN.{length};
@@ -52,10 +53,13 @@ fn put_call_values(x: Message, parts: &mut [u32])
     parts[9] = size_of(optional);
 }
 
-// Reads a BICC message. Accepted: 10, and parts[0..10) are code, type, then start and length of the fixed part, of the first and of the second contents, and of the optional run, each 0, 0 where there is none. Refused with the reader's numbers and octets, then 13.
+// Reads a BICC message. Accepted: 10, and parts[0..10) are code, type, then start and length of the
+// fixed part, of the first and of the second contents, and of the optional run, each 0, 0 where
+// there is none. Refused with the reader's numbers and octets, then 13.
 #[no_mangle]
 pub extern "C" fn llachurep_bicc_read(message: &[u8], parts: &mut [u32]) -> u32
-    ensures { λ r. ⌜ given r (now (parts .exit)) ≡ givenBy (callReadGives (now (message .entry)) (now (parts .entry))) ⌝ }
+    ensures { λ r. ⌜ given r (now (parts .exit)) ≡
+        givenBy (callReadGives (now (message .entry)) (now (parts .entry))) ⌝ }
 {
     match bicc_codec::read(message) {
         Reading::Refused(n, at) => telling::refusal(n, at),
@@ -69,7 +73,8 @@ pub extern "C" fn llachurep_bicc_read(message: &[u8], parts: &mut [u32]) -> u32
     }
 }
 
-// Writes a BICC message in its compact form to the front of `out`. Accepted: how many octets were written. Refused with 3, 10, 11, 12, 2, 13.
+// Writes a BICC message in its compact form to the front of `out`. Accepted: how many octets were
+// written. Refused with 3, 10, 11, 12, 2, 13.
 #[no_mangle]
 pub extern "C" fn llachurep_bicc_write(
     code: u32,
@@ -80,7 +85,8 @@ pub extern "C" fn llachurep_bicc_write(
     optional: &[u8],
     out: &mut [u8],
 ) -> u32
-    ensures { λ r. ⌜ given r (now (out .exit)) ≡ givenBy (callWriteOf code kind (now (fixed .entry)) (now (first .entry)) (now (second .entry)) (now (optional .entry)) (now (out .entry))) ⌝ }
+    ensures { λ r. ⌜ given r (now (out .exit)) ≡
+        givenBy (callWriteOf code kind (now (fixed .entry)) (now (first .entry)) (now (second .entry)) (now (optional .entry)) (now (out .entry))) ⌝ }
 {
     telling::written(bicc_codec::write(code, kind, fixed, first, second, optional, out))
 }

@@ -45,7 +45,8 @@ fn unblocked(block: u8, row: u8) -> u8
     row / 8 * 8 + row % 4
 }
 
-// What an act makes of a marked circuit's row. Only the acts on groups come with a kind of block; a block of one circuit is for maintenance.
+// What an act makes of a marked circuit's row. Only the acts on groups come with a kind of block; a
+// block of one circuit is for maintenance.
 pub fn changed(act: Act, block: u8, row: u8) -> u8
     ensures { λ r. ⌜ r ≡ changedRow act block row ⌝ }
 {
@@ -79,7 +80,8 @@ pub fn octet_at(list: &[u8], i: usize) -> u8
     if i < list.len() { list[i] } else { 0 }
 }
 
-// What a circuit state octet says of a row: call processing in its bits D C, remote and local maintenance in B A, remote hardware in F E.
+// What a circuit state octet says of a row: call processing in its bits D C, remote and local
+// maintenance in B A, remote hardware in F E.
 pub fn circuit_state(row: u8) -> u8
     ensures { λ r. ⌜ r ≡ circuitState row ⌝ }
 {

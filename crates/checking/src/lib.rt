@@ -1,4 +1,5 @@
-// A plan of a maintenance night, checked: each of its messages is judged as the hub would judge it, and what is ticked must be marked once.
+// A plan of a maintenance night, checked: each of its messages is judged as the hub would judge it,
+// and what is ticked must be marked once.
 ghost use mathlib.Core.Path.{_≡_};
 ghost use mathlib.Core.Bool.{not};
 ghost use mathlib.Core.Logic.{_⊎_};
@@ -51,7 +52,8 @@ fn fit(kind: u32, act: Act, block: u8) -> bool
 fn see(message: &[u8], ask: Ask, seen: &mut [u8; 4096]) -> bool
     requires { ⌜ Sound (now message) ask ⌝ }
     ensures { λ r. ⌜ told r (now (seen .exit)) ≡
-        seeing (λ c. markOf (now (message .entry)) (ask .status) (c - ask .circuit)) (ask .circuit) (ask .range + 1) (now (seen .entry)) ⌝ }
+        seeing (λ c. markOf (now (message .entry)) (ask .status) (c - ask .circuit)) (ask .circuit)
+        (ask .range + 1) (now (seen .entry)) ⌝ }
 {
     let circuit = ask.circuit;
     let range = ask.range;
@@ -127,7 +129,8 @@ fn wide(octet: u8) -> usize
     octet as usize
 }
 
-// Whether a plan is good: the hub, on the given tables, would accept every message in turn, and the ticked circuits are marked once each, no others.
+// Whether a plan is good: the hub, on the given tables, would accept every message in turn, and the
+// ticked circuits are marked once each, no others.
 // A table of wrong length, a kind other than 0 or 1, a plan cut off: no.
 pub fn check_plan(
     states: &[u8],
@@ -139,7 +142,8 @@ pub fn check_plan(
     plan: &[u8],
 ) -> bool
     ensures { λ r. ⌜ r ≡
-        checkAt (tables (now (states .entry)) (now (owners .entry)) (now (helpers .entry))) (now (ticks .entry)) sender kind (now (plan .entry)) ⌝ }
+        checkAt (tables (now (states .entry)) (now (owners .entry)) (now (helpers .entry)))
+        (now (ticks .entry)) sender kind (now (plan .entry)) ⌝ }
 {
     if states.len() != CIRCUITS {
         return false;

@@ -13,7 +13,8 @@ pub record Called : Type 0 where
 
 -- the four together
 abbrev pub called : ℕ → List ℕ → List ℕ → List ℕ → Called
-called value states totals buffer = record { value = value; states = states; totals = totals; buffer = buffer }
+called value states totals buffer =
+    record { value = value; states = states; totals = totals; buffer = buffer }
 
 -- what a call gives: its answer as one number, and the three lists
 abbrev pub calledBy : BoardAfter → Called

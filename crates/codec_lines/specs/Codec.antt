@@ -27,6 +27,8 @@ unfoldable pub codecLine : ℕ → List FieldSays → List ℕ
 codecLine which gs =
     if eqb which SHAPE then shapeLine (shapeOf (octetAt gs 0))
     else if eqb which READ then readLine (octetsAt gs 0) (readOf (octetsAt gs 0))
-    else if eqb which WRITE then octetsLine (writeOf (numberAt gs 0) (numberAt gs 1) (octetsAt gs 2) (octetsAt gs 3) (octetsAt gs 4) (octetsAt gs 5) (lent (numberAt gs 6)))
+    else if eqb which WRITE
+    then octetsLine (writeOf (numberAt gs 0) (numberAt gs 1) (octetsAt gs 2) (octetsAt gs 3) (octetsAt gs 4) (octetsAt gs 5) (lent (numberAt gs 6)))
     else if eqb which COMPACT then compactLine (compactOf (octetsAt gs 0) (lent (numberAt gs 1)))
-    else foundLine (octetsAt gs 1) (octetsAt gs 2) (locateOf (octetsAt gs 1) (octetsAt gs 2) (numberAt gs 0))
+    else foundLine (octetsAt gs 1) (octetsAt gs 2)
+    (locateOf (octetsAt gs 1) (octetsAt gs 2) (numberAt gs 0))

@@ -20,8 +20,10 @@ use requests::Request;
 fn say_write(fields: [Field; 8], octets: &[u8], out: &mut [u8]) -> usize
     ensures { λ r. ⌜ sheet (now (out .exit)) r ≡ pour (sheet (now (out .entry)) 0)
         (octetsLine (writeOf (numberAt (saidIn (now (octets .entry)) fields) 0) (numberAt (saidIn (now (octets .entry)) fields) 1)
-        (octetsAt (saidIn (now (octets .entry)) fields) 2) (octetsAt (saidIn (now (octets .entry)) fields) 3)
-        (octetsAt (saidIn (now (octets .entry)) fields) 4) (octetsAt (saidIn (now (octets .entry)) fields) 5)
+        (octetsAt (saidIn (now (octets .entry)) fields) 2)
+        (octetsAt (saidIn (now (octets .entry)) fields) 3)
+        (octetsAt (saidIn (now (octets .entry)) fields) 4)
+        (octetsAt (saidIn (now (octets .entry)) fields) 5)
         (lent (numberAt (saidIn (now (octets .entry)) fields) 6)))) ⌝ }
 {
     let circuit = fields[0];
@@ -63,7 +65,9 @@ fn say_compact(fields: [Field; 8], octets: &[u8], out: &mut [u8]) -> usize
 
 // Says where a parameter was found, with its contents; or the refusal with the reader's octet.
 fn say_located(located: Located, message: &[u8], defaults: &[u8], out: &mut [u8]) -> usize
-    ensures { λ r. ⌜ sheet (now (out .exit)) r ≡ pour (sheet (now (out .entry)) 0) (foundLine (now (message .entry)) (now (defaults .entry)) (locatedTold located)) ⌝ }
+    ensures { λ r. ⌜ sheet (now (out .exit)) r ≡
+        pour (sheet (now (out .entry)) 0)
+        (foundLine (now (message .entry)) (now (defaults .entry)) (locatedTold located)) ⌝ }
 {
     match located {
         Located::Message(at, len) => {
@@ -91,9 +95,12 @@ fn say_find(fields: [Field; 8], octets: &[u8], out: &mut [u8]) -> usize
     say_located(located, message, defaults, out)
 }
 
-// Puts the answer's line to one of the codec's requests at the front of `out`, and answers the next place. What `out` has no room for is left out.
+// Puts the answer's line to one of the codec's requests at the front of `out`, and answers the next
+// place. What `out` has no room for is left out.
 pub fn codec_line(request: Request, octets: &[u8], out: &mut [u8]) -> usize
-    ensures { λ r. ⌜ sheet (now (out .exit)) r ≡ pour (sheet (now (out .entry)) 0) (codecLine (request .which) (saidIn (now (octets .entry)) (request .fields))) ⌝ }
+    ensures { λ r. ⌜ sheet (now (out .exit)) r ≡
+        pour (sheet (now (out .entry)) 0)
+        (codecLine (request .which) (saidIn (now (octets .entry)) (request .fields))) ⌝ }
 {
     let fields = request.fields;
     if request.which == SHAPE {

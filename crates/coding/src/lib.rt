@@ -54,7 +54,8 @@ fn flat_code(bearing: f64, speed: f64) -> Flat
     }
 }
 
-// The codes of a velocity. Refused with 26 where a value is not a number, infinite or below zero, or a bearing is 360 or more.
+// The codes of a velocity. Refused with 26 where a value is not a number, infinite or below zero,
+// or a bearing is 360 or more.
 pub fn code(v: Velocity) -> Coded
     ensures { λ r. ⌜ codedTold r ≡ codesOf v ⌝ }
 {

@@ -1,4 +1,5 @@
--- Any two answers that a public function's contract allows are equal. The start's refusal is the reader's.
+-- Any two answers that a public function's contract allows are equal. The
+-- start's refusal is the reader's.
 use Prim.Native.Nat.{ℕ}
 use mathlib.Core.Path.{_≡_, sym, _∙_, ap}
 use mathlib.Core.List.{List}

@@ -1,4 +1,6 @@
--- A cursor from its start on: it keeps hold of the same memory, and its steps give exactly the declared parameters, in order, then done for ever; over a message that the reader refuses, done from the first.
+-- A cursor from its start on: it keeps hold of the same memory, and its steps give
+-- exactly the declared parameters, in order, then done for ever; over a message that
+-- the reader refuses, done from the first.
 use Prim.Native.Nat.{ℕ, zero, suc}
 use mathlib.Core.Path.{_≡_, refl, sym, _∙_, subst}
 use mathlib.Core.List.{List, [], _∷_}
@@ -38,7 +40,8 @@ gives (suc n) c g gone given =
     let on : stepsFrom n (now (c 1 .message)) (c 1 .at) ≡ stepsFrom n (now (c 0 .message)) (placeAfter (now (c 0 .message)) (c 0 .at)) = λ i. stepsFrom n (now (gone 0 .0 i)) (gone 0 .1 i) in
     λ i. given 0 i ∷ (rest ∙ on) i
 
--- the cursors c 0, c 1, .. from the start over the lent message s, each past the one before it, and what a step of each gives
+-- the cursors c 0, c 1, .. from the start over the lent message s, each past the one before it, and
+-- what a step of each gives
 module _ (F : Family) (s : RefT (List ℕ)) (c : ℕ → Cursor) (g : ℕ → Offer) (begun : Begun F s (c 0)) (gone : (k : ℕ) → Moved (c k) (c (suc k))) (given : (k : ℕ) → g k ≡ offerAt (now (c k .message)) (c k .at)) where
   -- every one keeps hold of the same memory
   pub cursor-keeps : (n : ℕ) → c n .message ≡ s

@@ -1,4 +1,5 @@
--- The refusal beside the start has number 0 exactly where the reader takes the message: every number of a refusal is 1 at the least.
+-- The refusal beside the start has number 0 exactly where the reader takes the message: every
+-- number of a refusal is 1 at the least.
 use Prim.Native.Nat.{ℕ, _≤_}
 use mathlib.Core.Path.{_≡_, refl, ap}
 use mathlib.Core.List.{List}

@@ -16,7 +16,8 @@ abbrev pub refusalBy : Answer Parts → Refusal
 refusalBy (accepted p) = record { number = 0; place = 0 }
 refusalBy (refused n at) = record { number = n; place = at }
 
--- at its start a cursor holds the lent message itself, and stands where stepping through a message of the family starts
+-- at its start a cursor holds the lent message itself, and stands where stepping
+-- through a message of the family starts
 abbrev pub Begun : Family → RefT (List ℕ) → Cursor → Type 0
 Begun F s c = (c .message ≡ s) × (c .at ≡ startIn F (now s))
 

@@ -1,4 +1,5 @@
--- Any two answers that a public function's contract allows are one, and what it is lent holds the same octets afterwards.
+-- Any two answers that a public function's contract allows are one, and what it
+-- is lent holds the same octets afterwards.
 use Prim.Native.Nat.{ℕ}
 use mathlib.Core.Path.{_≡_, sym, _∙_, ap}
 use mathlib.Core.Bool.{Bool, false}

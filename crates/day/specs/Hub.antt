@@ -1,4 +1,5 @@
--- All of the hub that a replay uses: the rows at first, what one message does to them, whether it was accepted, and a circuit's busy bit.
+-- All of the hub that a replay uses: the rows at first, what one message does to them, whether it
+-- was accepted, and a circuit's busy bit.
 -- A change of the hub's call changes this page and `hear`, and nothing else of a replay.
 use Prim.Native.Nat.{ℕ, _%_}
 use mathlib.Core.List.{List}
@@ -45,4 +46,5 @@ unhelped owners = replicate (length owners) 0
 
 -- by the circuit rules, with nobody's help and an answer buffer of 268 octets
 unfoldable pub heardOf : List ℕ → Rows → ℕ → List ℕ → Heard
-heardOf owners rows sender m = heardBy (actOf (tables rows owners (unhelped owners)) sender m (replicate 268 0))
+heardOf owners rows sender m =
+    heardBy (actOf (tables rows owners (unhelped owners)) sender m (replicate 268 0))

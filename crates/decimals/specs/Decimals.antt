@@ -22,7 +22,8 @@ partFrom v n d (c ∷ cs) =
     else if ltb 14 n then Not
     else partFrom (10 * v + valueOf c) (n + 1) (10 * d) cs
 
--- digits up to a point or the end, after n digits that stand for v: at least one before a point, and one after it
+-- digits up to a point or the end, after n digits that stand for v: at least
+-- one before a point, and one after it
 unfoldable pub wholeFrom : ℕ → ℕ → List ℕ → Decimal
 wholeFrom v n [] = if eqb n 0 then Not else Is v 1
 wholeFrom v n (c ∷ cs) =
@@ -65,5 +66,8 @@ unfoldable pub realOf : List ℕ → Real
 realOf word =
     if eqb (length word) 0 then NoValue
     else if eqb (getD word 0 0) 45 then belowZero (typedOf (drop 1 word))
-    else if eqb (length word) 18 then (if eqb (getD word 1 0) 120 then (if eqb (getD word 0 0) 48 then patternOf (hexFrom 0 (drop 2 word)) else typedOf word) else typedOf word)
+    else if eqb (length word) 18
+    then (if eqb (getD word 1 0) 120
+    then (if eqb (getD word 0 0) 48 then patternOf (hexFrom 0 (drop 2 word)) else typedOf word)
+    else typedOf word)
     else typedOf word

@@ -1,6 +1,9 @@
-// The desk: one request a line on standard input, one answer a line on standard output. Lines are answered as they come.
-// Where an answer cannot be written the desk ends there, so that no answer stands in another's place; where standard input cannot be read it ends too.
-// Either is said on standard error, and to whoever waits at descriptor 3, since a program has no status of its own.
+// The desk: one request a line on standard input, one answer a line on standard
+// output. Lines are answered as they come.
+// Where an answer cannot be written the desk ends there, so that no answer stands in another's
+// place; where standard input cannot be read it ends too.
+// Either is said on standard error, and to whoever waits at descriptor 3, since
+// a program has no status of its own.
 use libc::STDERR_FILENO;
 use libc::STDIN_FILENO;
 use libc::STDOUT_FILENO;
@@ -22,7 +25,8 @@ fn tell(fault: &[u8]) {
     io::write_all(STATUS_FILENO, b"1");
 }
 
-// Writes the first n octets of an answer. Where they cannot be written, that is told, and the desk ends; else it goes on where there is more to read.
+// Writes the first n octets of an answer. Where they cannot be written, that is told, and the desk
+// ends; else it goes on where there is more to read.
 fn write_out(out: &[u8], n: usize, more: bool) -> bool {
     if n <= out.len() {
         if io::write_all(STDOUT_FILENO, &out[0..n]) {
@@ -57,7 +61,8 @@ fn octet_at(chunk: &[u8], at: &mut usize, end: usize) -> Came {
     Came::Ended
 }
 
-// The next octet of the input: of what was read and stands in `chunk` from `at` to `end`, or, where all that is taken, of what is read next.
+// The next octet of the input: of what was read and stands in `chunk` from `at` to `end`, or, where
+// all that is taken, of what is read next.
 fn next_octet(chunk: &mut [u8], at: &mut usize, end: &mut usize) -> Came {
     if *at < *end {
         return octet_at(chunk, at, *end);
@@ -71,8 +76,10 @@ fn next_octet(chunk: &mut [u8], at: &mut usize, end: &mut usize) -> Came {
     octet_at(chunk, at, *end)
 }
 
-// Puts the octets up to the next LF, or to the input's end, into `line`, and answers how many there are; a CR before the LF is left out.
-// At the input's end, and where it cannot be read, there is no more. Then a line that may be cut off is nothing, and the fault is told.
+// Puts the octets up to the next LF, or to the input's end, into `line`, and answers how many there
+// are; a CR before the LF is left out.
+// At the input's end, and where it cannot be read, there is no more. Then a line that may be cut
+// off is nothing, and the fault is told.
 fn next_line(
     chunk: &mut [u8],
     at: &mut usize,

@@ -6,8 +6,10 @@ ghost use Rattle.octets.specs.Told.{writtenTold};
 use octets::Written;
 use rows::CIRCUITS;
 
-// A call of our own desk: sets the block of a circuit from our side, or clears it, whoever owns the circuit. The BLO or UBL to send fills the front of `answer` and its count is given.
-// Refused in order: 16 where there are not 4096 states, 9 for a circuit above 4095, 20 where its row is not legal, 13 for fewer than three octets of `answer`; a refusal changes nothing.
+// A call of our own desk: sets the block of a circuit from our side, or clears it, whoever owns the
+// circuit. The BLO or UBL to send fills the front of `answer` and its count is given.
+// Refused in order: 16 where there are not 4096 states, 9 for a circuit above 4095, 20 where its
+// row is not legal, 13 for fewer than three octets of `answer`; a refusal changes nothing.
 pub fn desk_call(states: &mut [u8], circuit: u32, set: bool, answer: &mut [u8]) -> Written
     ensures { λ r. ⌜ after (writtenTold r) (now (states .exit)) (now (answer .exit)) ≡
         deskOf (now (states .entry)) circuit set (now (answer .entry)) ⌝ }

@@ -1,4 +1,5 @@
--- What is written reads back as it was given, and what is read writes back to the same octets but for the spare bits, 0.
+-- What is written reads back as it was given, and what is read writes back to
+-- the same octets but for the spare bits, 0.
 use Prim.Native.Nat.{ℕ, _≤_}
 use mathlib.Core.Path.{_≡_, refl, sym, _∙_, ap}
 use mathlib.Core.List.{List}
@@ -27,7 +28,8 @@ written-reads-back nature plan internal signals out n left buffer e room =
     ap (λ (contents : List ℕ). readNumberOf contents buffer) octets
     ∙ read-number-exactly (w .0) buffer _ (filled signals buffer) .1 (signals, w .1 .number, room, refl)
 
--- the values and the signals that were read are written as the octets that were given, with spare bits 0
+-- the values and the signals that were read are written as the octets that
+-- were given, with spare bits 0
 pub read-writes-back : (contents buffer : List ℕ) (number : Number) (left out : List ℕ) →
     AllOctets contents →
     readNumberOf contents buffer ≡ leaving (accepted number) left →

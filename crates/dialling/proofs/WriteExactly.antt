@@ -1,4 +1,5 @@
--- A number is written as the one well formed number of its values and signals whose spare bits are 0.
+-- A number is written as the one well formed number of its values and
+-- signals whose spare bits are 0.
 use Prim.Native.Nat.{ℕ, zero, suc, _+_, _*_, _/_, _%_, _<_, _≤_}
 use mathlib.Core.Path.{_≡_, refl, sym, _∙_, ap, subst}
 use mathlib.Core.List.{List, [], _∷_}
@@ -149,7 +150,8 @@ pub written-one : {nature plan internal : ℕ} {signals octets others : List ℕ
 written-one v w =
     ap (λ (x : ℕ × List ℕ). x .1) (accepted-same (sym (octets-exactly _ _ _ _ _ _ .1 (refl, v)) ∙ octets-exactly _ _ _ _ _ _ .1 (refl, w)))
 
--- writing accepts exactly where there are octets that have room, and leaves these at the front of the buffer
+-- writing accepts exactly where there are octets that have room, and leaves
+-- these at the front of the buffer
 pub write-number-exactly : (nature plan internal : ℕ) (signals buffer : List ℕ) (n : ℕ) (left : List ℕ) →
     (writeNumberOf nature plan internal signals buffer ≡ leaving (accepted n) left)
     ↔ ((octets : List ℕ) × WrittenNumber nature plan internal signals octets × (n ≡ length octets) × (length octets ≤ length buffer) × (left ≡ filled octets buffer))

@@ -19,7 +19,9 @@ valuesFaults nature plan internal signals =
     ∷ fault 14 0 (SignalAbove15 signals)
     ∷ []
 
--- the faults of writing: those of the values and signals, then 13 for a buffer too short for two octets, one for each two signals, and one for a signal that is left over
+-- the faults of writing: those of the values and signals, then 13 for a buffer too short for two
+-- octets, one for each two signals, and one for a signal that is left over
 abbrev pub numberWriteFaults : ℕ → ℕ → ℕ → List ℕ → List ℕ → List Fault
 numberWriteFaults nature plan internal signals buffer =
-    valuesFaults nature plan internal signals ++ (fault 13 0 (TooShort buffer (2 + (length signals + 1) / 2)) ∷ [])
+    valuesFaults nature plan internal signals
+    ++ (fault 13 0 (TooShort buffer (2 + (length signals + 1) / 2)) ∷ [])

@@ -11,6 +11,11 @@ pub record WrittenNumber (nature plan internal : ℕ) (signals octets : List ℕ
   -- each is an octet
   pub each : AllOctets octets
   -- they are well formed, with these values and these signals
-  pub number : WellFormedNumber octets (record { nature = nature; plan = plan; internal = internal; count = length signals }) signals
+  pub number : WellFormedNumber octets (record {
+    nature = nature;
+    plan = plan;
+    internal = internal;
+    count = length signals;
+  }) signals
   -- the four spare bits are 0
   pub spare : getD octets 1 0 % 16 ≡ 0

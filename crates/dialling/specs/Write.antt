@@ -18,7 +18,8 @@ anyAbove15 (signal ∷ signals) = if ltb 15 signal then true else anyAbove15 sig
 abbrev pub withLength : List ℕ → ℕ × List ℕ
 withLength octets = (length octets, octets)
 
--- the octets of a number and their length, or 14: nature above 127, plan above 7, internal bit above 1, more than 30 signals, a signal above 15
+-- the octets of a number and their length, or 14: nature above 127, plan above 7, internal bit
+-- above 1, more than 30 signals, a signal above 15
 abbrev pub numberOctets : ℕ → ℕ → ℕ → List ℕ → Answer (ℕ × List ℕ)
 numberOctets nature plan internal signals =
     if ltb 127 nature then refused 14 0 else

@@ -31,7 +31,8 @@ pub fn value(digit: u8) -> u8
     16
 }
 
-// Where the word that begins at `from` ends: at the first space from there on, or at the line's end.
+// Where the word that begins at `from` ends: at the first space from there
+// on, or at the line's end.
 pub fn word_end(line: &[u8], from: usize) -> usize
     ensures { λ r. ⌜ r ≡ wordEnd (now (line .entry)) from ⌝ }
 {

@@ -1,4 +1,5 @@
--- Over any family: accepted exactly when well formed; what is written reads back; reading and writing again gives the one compact form or 12.
+-- Over any family: accepted exactly when well formed; what is written reads back; reading and
+-- writing again gives the one compact form or 12.
 use Prim.Native.Nat.{ℕ, _≤_}
 use mathlib.Core.Path.{_≡_, refl, sym, _∙_, ap, subst}
 use mathlib.Core.Bool.{true, false}
@@ -55,7 +56,8 @@ module _ (F : Family) where
   params-one m p q f g =
       laid-params-unique m (F .width) (g .shape) p q (f .params) (g .params) (subst (λ (s : Shape). LaidOut m (F .width) s p (f .params)) (shape-same m p q f g) (f .laid)) (g .laid)
 
-  -- gaps and octets after the last part are ignored: a message that agrees on the type, the fixed part, the pointers and the parts reads the same
+  -- gaps and octets after the last part are ignored: a message that agrees on the type, the fixed
+  -- part, the pointers and the parts reads the same
   pub gaps-read-same : (m m′ : List ℕ) (p : Parts) (f : FamilyFormed F m p) → length m′ ≤ F .most → Agrees (f .laid) m′ → (octet m′ (F .width) ≡ octet m (F .width)) × (readIn F m′ ≡ readIn F m)
   gaps-read-same m m′ p f l g =
       let k = g (F .width) (inl (omega arith, omega arith)) in (
@@ -84,7 +86,8 @@ module _ (F : Family) where
   pub shape-small : (r : Row) (o : Order) (n : ℕ) (ys : List ℕ) → ofShape r (F .most) o ≡ accepted (n, ys) → n ≤ F .most
   shape-small r o n ys e = let k = row-says r o (n, ys) e in let t = written-taken (k .0) (F .most) o n ys (k .2) in omega (arith, t .short, t .count, ap length (t .octets))
 
-  -- what is written reads; it is in the compact form and says what was given, header included, octet for octet
+  -- what is written reads; it is in the compact form and says what was given,
+  -- header included, octet for octet
   pub write-reads-back-in : (o : Order) (n : ℕ) (ys : List ℕ) → length (o .head) ≡ F .width → familyWriteIn F o ≡ accepted (n, ys)
       → (n ≡ length ys) × ((p : Parts) × (readIn F ys ≡ accepted p) × FamilyCompact F ys p × (saidBy ys (F .width) p ≡ o))
   write-reads-back-in o n ys h e =

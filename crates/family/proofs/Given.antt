@@ -1,4 +1,5 @@
--- Reading and writing again from what the calls ensure, over plain variables; any two answers that the contract allows are equal, and a refusal keeps the buffer.
+-- Reading and writing again from what the calls ensure, over plain variables; any two answers that
+-- the contract allows are equal, and a refusal keeps the buffer.
 use Prim.Native.Nat.{ℕ}
 use mathlib.Core.Path.{_≡_, refl, sym, _∙_, ap}
 use mathlib.Core.List.{List}

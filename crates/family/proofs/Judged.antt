@@ -1,4 +1,5 @@
--- Refused exactly when, over any family: the number is the first fault in the paper's order, and acceptance is the absence of all. The numbers that are never given.
+-- Refused exactly when, over any family: the number is the first fault in the paper's order, and
+-- acceptance is the absence of all. The numbers that are never given.
 use Prim.Native.Nat.{ℕ, _≤_, _<_}
 use mathlib.Core.Path.{_≡_, refl, sym, _∙_, ap, subst}
 use mathlib.Core.List.{List, [], _∷_, _++_}

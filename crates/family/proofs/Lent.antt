@@ -50,7 +50,8 @@ module _ (F : Family) where
     write-front : (familyWriteIn F o ≡ accepted (n, take n left)) × (n ≤ length buffer) × (drop n left ≡ drop n buffer)
     write-front = front buffer (familyWriteIn F o) n left (λ ys q. write-reads-back-in F o n ys h q .0) e
 
-    -- the n octets that were left read; they are in the compact form and say what was given, octet for octet
+    -- the n octets that were left read; they are in the compact form and say
+    -- what was given, octet for octet
     pub write-reads-back : (p : Parts) × (readIn F (take n left) ≡ accepted p) × FamilyCompact F (take n left) p × (saidBy (take n left) (F .width) p ≡ o)
     write-reads-back = write-reads-back-in F o n (take n left) h (write-front .0) .1
 

@@ -1,4 +1,5 @@
--- The octet that a refusal is about, over any family: the reader's by document 02's rule; reading and writing again hands it on; the writer's own numbers are about none.
+-- The octet that a refusal is about, over any family: the reader's by document 02's rule; reading
+-- and writing again hands it on; the writer's own numbers are about none.
 use Prim.Native.Nat.{ℕ, _≤_, _<_}
 use mathlib.Core.Path.{_≡_, sym}
 use mathlib.Core.List.{List}
@@ -31,7 +32,8 @@ shape-placeless : (r : Row) (most : ℕ) (o : Order) → UpTo 0 (ofShape r most 
 shape-placeless (Has s) most o = written-placeless s most o
 shape-placeless Unknown most o = up-to-refused _ 3 0 (omega arith)
 
--- reading and writing again, with any row and any header: a refusal is the reader's, octet and all, or about no octet
+-- reading and writing again, with any row and any header: a refusal is the
+-- reader's, octet and all, or about no octet
 pub rewrite-hands-on : (m : List ℕ) (w most : ℕ) (r : Row) (head buffer : List ℕ) (n at : ℕ) → rewriteOf m w most r head buffer .answer ≡ refused n at → (partsOf m w most r ≡ refused n at) ⊎ (at ≡ 0)
 unfolding rewriteOf
 rewrite-hands-on m w most r head buffer n at e =

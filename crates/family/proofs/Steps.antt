@@ -1,4 +1,5 @@
--- The steps give exactly the declared parameters, in order, then done for ever; over a message that the reader refuses, done from the first.
+-- The steps give exactly the declared parameters, in order, then done for ever; over a message that
+-- the reader refuses, done from the first.
 use Prim.Native.Nat.{ℕ, zero, suc, _+_, _≤_}
 use mathlib.Core.Path.{_≡_, refl, sym, ap, subst}
 use mathlib.Core.List.{List, [], _∷_}
@@ -60,7 +61,8 @@ steps-params (suc n) m (q ∷ qs) i z p e =
     rw s ((sym (x .named), sym (x .holds)), subst (λ (j : ℕ). GivesAll m qs (stepsFrom n m j)) (sym k) (steps-params n m qs (p .0) z (p .2) e))
 
 module _ (F : Family) (m : List ℕ) where
-  -- over a well-formed message: its declared parameters, name and contents, in order, then done, for every number of steps
+  -- over a well-formed message: its declared parameters, name and contents, in order, then done,
+  -- for every number of steps
   pub steps-exactly : (p : Parts) (f : FamilyFormed F m p) (n : ℕ) → GivesAll m (f .params) (stepsFrom n m (startIn F m))
   unfolding startIn
   steps-exactly p f n =

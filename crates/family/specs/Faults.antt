@@ -1,4 +1,5 @@
--- The faults of a message of a family, of writing one, and of reading and writing again, in the paper's order.
+-- The faults of a message of a family, of writing one, and of reading and
+-- writing again, in the paper's order.
 use Prim.Native.Nat.{ℕ, _<_}
 use mathlib.Core.Path.{_≡_}
 use mathlib.Core.List.{List, [], _∷_, _++_}
@@ -17,7 +18,8 @@ use Rattle.writing.specs.Faults.{Exceeds, partsFaults}
 use Rattle.writing.specs.Compact.{saidWith, saidBy}
 use Rattle.family.specs.Family.{Family, familyWriteIn, rewriteIn, familyCompactIn}
 
--- the reader's: 1, 2, 3, 4; each variable pointer in turn 5 then 6; the optional pointer 5 then 7; then 8
+-- the reader's: 1, 2, 3, 4; each variable pointer in turn 5 then 6; the
+-- optional pointer 5 then 7; then 8
 abbrev pub familyFaults : Family → List ℕ → List Fault
 familyFaults F m = messageFaults m (F .width) (F .most) (F .row (octet m (F .width)))
 
@@ -44,18 +46,24 @@ CannotHold m w most r = (p : Parts) × (f : Framed m w most r p) × Exceeds (f .
 
 -- 2 where a header that is wider than said makes the compact form longer than the longest message
 abbrev pub TooLong : List ℕ → ℕ → ℕ → Row → List ℕ → Type 0
-TooLong m w most r head = (p : Parts) × (f : Framed m w most r p) × (most < length (orderOctets (f .shape) (saidWith head m w p)))
+TooLong m w most r head =
+    (p : Parts) × (f : Framed m w most r p)
+    × (most < length (orderOctets (f .shape) (saidWith head m w p)))
 
 -- of reading and writing again with a row and any header: the reader's, 12, 2, 13
 abbrev pub rewriteFaults : List ℕ → ℕ → ℕ → Row → List ℕ → List ℕ → List Fault
 rewriteFaults m w most r head buffer =
-    (messageFaults m w most r ++ (fault 12 0 (CannotHold m w most r) ∷ fault 2 0 (TooLong m w most r head) ∷ []))
+    (messageFaults m w most r
+    ++ (fault 12 0 (CannotHold m w most r) ∷ fault 2 0 (TooLong m w most r head) ∷ []))
     ++ (roomFault (rewriteIn m w most r head) buffer ∷ [])
 
 -- of a family, with a header of its width: the reader's, 12, 13
 abbrev pub againFaults : Family → List ℕ → List Fault
-againFaults F m = familyFaults F m ++ (fault 12 0 (CannotHold m (F .width) (F .most) (F .row (octet m (F .width)))) ∷ [])
+againFaults F m =
+    familyFaults F m
+    ++ (fault 12 0 (CannotHold m (F .width) (F .most) (F .row (octet m (F .width)))) ∷ [])
 
 -- R19. then 13, where the lent output is too short
 abbrev pub familyCompactFaults : Family → List ℕ → List ℕ → List ℕ → List Fault
-familyCompactFaults F head m buffer = againFaults F m ++ (roomFault (familyCompactIn F head m) buffer ∷ [])
+familyCompactFaults F head m buffer =
+    againFaults F m ++ (roomFault (familyCompactIn F head m) buffer ∷ [])

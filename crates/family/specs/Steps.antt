@@ -1,4 +1,5 @@
--- Stepping through the optional parameters of a message: where it starts, what each step gives, and where the next one is.
+-- Stepping through the optional parameters of a message: where it starts, what
+-- each step gives, and where the next one is.
 use Prim.Native.Nat.{ℕ, zero, suc, _+_}
 use mathlib.Core.Path.{_≡_}
 use mathlib.Core.List.{List, [], _∷_}
@@ -43,9 +44,11 @@ unfoldable pub stepsFrom : ℕ → List ℕ → ℕ → List Offer
 stepsFrom zero m i = []
 stepsFrom (suc n) m i = offerAt m i ∷ stepsFrom n m (placeAfter m i)
 
--- the first octet of the optional run; past the message where it has none, or where the reader refuses it
+-- the first octet of the optional run; past the message where it has none, or
+-- where the reader refuses it
 abbrev pub startBy : List ℕ → Answer Parts → ℕ
-startBy m (accepted p) = if ltb (p .optional .from) (p .optional .to) then p .optional .from else length m
+startBy m (accepted p) =
+    if ltb (p .optional .from) (p .optional .to) then p .optional .from else length m
 startBy m (refused n at) = length m
 
 -- where stepping through a message of a family starts

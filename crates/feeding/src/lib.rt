@@ -43,7 +43,8 @@ fn take_span(
     owners: &mut [u8],
 ) -> Await
     requires { ⌜ length (now owners) ≡ 4096 ⌝ }
-    ensures { λ r. ⌜ spanned r (now (owners .exit)) ≡ spannedOf left next first last sender (now (owners .entry)) ⌝ }
+    ensures { λ r. ⌜ spanned r (now (owners .exit)) ≡
+        spannedOf left next first last sender (now (owners .entry)) ⌝ }
 {
     if book::bad_span(next, first, last, sender) {
         return Await::Bad;
@@ -86,7 +87,8 @@ fn complete(
     accepted: &mut [u16],
     refused: &mut [u16],
 ) -> Await
-    requires { ⌜ (wantOf awaits ≤ length (now buffer)) × (5 ≤ length (now buffer)) × (length (now owners) ≡ 4096) ⌝ }
+    requires { ⌜ (wantOf awaits ≤ length (now buffer)) × (5 ≤ length (now buffer))
+        × (length (now owners) ≡ 4096) ⌝ }
     ensures { λ r. ⌜ machine r [] (day (now (owners .exit)) (now (states .exit)) (now (accepted .exit)) (now (refused .exit))) ≡
         completed awaits (take (wantOf awaits) (now (buffer .entry))) (day (now (owners .entry)) (now (states .entry)) (now (accepted .entry)) (now (refused .entry))) ⌝ }
 {
@@ -180,7 +182,8 @@ fn ready(place: Place, room: usize) -> bool
 }
 
 // Takes octets of the book in. What has come of what is awaited stands at the front of `buffer`.
-// Tables or a buffer of other lengths, or a place that no book has: the tables are kept, and then there is no book.
+// Tables or a buffer of other lengths, or a place that no book has: the tables
+// are kept, and then there is no book.
 pub fn feed(
     place: Place,
     chunk: &[u8],

@@ -12,7 +12,8 @@ use Rattle.words.specs.Words.{numberOf, octetOf, areOctets, octetsOf}
 abbrev pub typedMost : ℕ
 typedMost = 18
 
--- a number up to a limit; one that is not below the number before it; one octet, a type or a parameter's name; octets up to a limit; a word as it is typed
+-- a number up to a limit; one that is not below the number before it; one octet, a type or a
+-- parameter's name; octets up to a limit; a word as it is typed
 pub data Kind : Type 0 where
   aNumber : ℕ → Kind
   aLast : ℕ → Kind
@@ -53,7 +54,8 @@ abbrev pub meaning : Kind → ℕ → List ℕ → Found FieldSays
 meaning (aNumber most) before word = numberSays (numberOf most word)
 meaning (aLast most) before word = numberSays (notBelow before (numberOf most word))
 meaning anOctet before word = numberSays (octetOf word)
-meaning (someOctets most) before word = if areOctets most word then found (fieldSays 0 (octetsOf word)) else lost
+meaning (someOctets most) before word =
+    if areOctets most word then found (fieldSays 0 (octetsOf word)) else lost
 meaning aWord before word = if ltb typedMost (length word) then lost else found (fieldSays 0 word)
 
 -- one more at the front of those that were found

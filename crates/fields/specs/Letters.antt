@@ -43,7 +43,9 @@ planMost = 36864
 abbrev pub letter : String → ℕ
 letter text = getD (said text) 0 0
 
--- the limit of a number by its letter: c a circuit, v a sender, a state, a total or a vertical code, b a block of circuits, h a bearing's or a speed's code, r room, p room for a plan; any other (n) any number
+-- the limit of a number by its letter: c a circuit, v a sender, a state, a total or a
+-- vertical code, b a block of circuits, h a bearing's or a speed's code, r room, p
+-- room for a plan; any other (n) any number
 unfoldable pub mostOf : ℕ → ℕ
 mostOf l =
     if eqb l (letter "c") then circuitMost
@@ -54,7 +56,8 @@ mostOf l =
     else if eqb l (letter "p") then planMost
     else anyMost
 
--- the kind of a field by its letter: o an octet in two hexadecimal digits, s octets, q those of a plan, w a word as it is typed, l the last circuit of a span; any other a number
+-- the kind of a field by its letter: o an octet in two hexadecimal digits, s octets, q those of a
+-- plan, w a word as it is typed, l the last circuit of a span; any other a number
 unfoldable pub kindOf : ℕ → Kind
 kindOf l =
     if eqb l (letter "o") then anOctet

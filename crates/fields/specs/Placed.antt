@@ -1,4 +1,5 @@
--- What a word stands for as a field of a kind: a number, or octets, which are put into a lent scratch; and the field of it.
+-- What a word stands for as a field of a kind: a number, or octets, which are put into a lent
+-- scratch; and the field of it.
 use Prim.Native.Nat.{ℕ, _-_}
 use mathlib.Core.List.{List}
 use lib.Dec.{ltb}
@@ -19,7 +20,8 @@ field value from count = record { value = value; from = from; count = count }
 abbrev pub noField : Field
 noField = field 0 0 0
 
--- a word as it is typed, of up to 18 octets, into a buffer from octet `at` on, where it has room for it
+-- a word as it is typed, of up to 18 octets, into a buffer from octet `at`
+-- on, where it has room for it
 unfoldable pub wordInto : List ℕ → List ℕ → ℕ → Entry
 wordInto word buffer at =
     if ltb typedMost (length word) then entry Not buffer
@@ -27,7 +29,8 @@ wordInto word buffer at =
     else if ltb (length buffer - at) (length word) then entry Not buffer
     else entry (Is (length word)) (sets buffer at word)
 
--- the number that a word stands for as a field of a kind, or how many octets, which are put into the scratch from `next` on
+-- the number that a word stands for as a field of a kind, or how many octets, which are put into
+-- the scratch from `next` on
 abbrev pub entered : Kind → ℕ → List ℕ → List ℕ → ℕ → Entry
 entered (aNumber most) before word scratch next = entry (numberOf most word) scratch
 entered (aLast most) before word scratch next = entry (notBelow before (numberOf most word)) scratch

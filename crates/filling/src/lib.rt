@@ -1,4 +1,5 @@
-// The compact form of a message of any shape row, with any header, put into a lent buffer. Each octet is stored once.
+// The compact form of a message of any shape row, with any header, put into a
+// lent buffer. Each octet is stored once.
 ghost use mathlib.Core.Path.{_≡_};
 ghost use mathlib.Core.Bool.{false};
 ghost use mathlib.Core.List.{_∷_, []};
@@ -41,7 +42,8 @@ fn put_all(out: &mut [u8], at: usize, octets: &[u8]) -> usize
 
 // A pointer, where it is wanted; the place past it.
 fn put_pointer(out: &mut [u8], at: usize, wanted: bool, pointer: usize) -> usize
-    requires { ⌜ (at + length (pointerIf wanted pointer) ≤ length (now out)) × (beyondOf wanted pointer ≡ false) ⌝ }
+    requires { ⌜ (at + length (pointerIf wanted pointer) ≤ length (now out))
+        × (beyondOf wanted pointer ≡ false) ⌝ }
     ensures { λ r. ⌜ Stored (now (out .entry)) at (pointerIf wanted pointer) r (now (out .exit)) ⌝ }
 {
     if wanted {
@@ -52,8 +54,10 @@ fn put_pointer(out: &mut [u8], at: usize, wanted: bool, pointer: usize) -> usize
 
 // A variable parameter, where it is wanted: its length octet, then its contents; the place past it.
 fn put_part(out: &mut [u8], at: usize, wanted: bool, contents: &[u8]) -> usize
-    requires { ⌜ (at + length (partIf wanted (now contents)) ≤ length (now out)) × (length (now contents) ≤ 255) ⌝ }
-    ensures { λ r. ⌜ Stored (now (out .entry)) at (partIf wanted (now (contents .entry))) r (now (out .exit)) ⌝ }
+    requires { ⌜ (at + length (partIf wanted (now contents)) ≤ length (now out))
+        × (length (now contents) ≤ 255) ⌝ }
+    ensures { λ r. ⌜ Stored (now (out .entry)) at (partIf wanted (now (contents .entry))) r
+        (now (out .exit)) ⌝ }
 {
     if wanted {
         let past = put(out, at, contents.len() as u8);
@@ -62,10 +66,12 @@ fn put_part(out: &mut [u8], at: usize, wanted: bool, contents: &[u8]) -> usize
     at
 }
 
-// The optional part: the run and the 0 that closes it, or nothing where the run is empty; the place past it.
+// The optional part: the run and the 0 that closes it, or nothing where the
+// run is empty; the place past it.
 fn put_run(out: &mut [u8], at: usize, run: &[u8]) -> usize
     requires { ⌜ at + length (closedRun (now run)) ≤ length (now out) ⌝ }
-    ensures { λ r. ⌜ Stored (now (out .entry)) at (closedRun (now (run .entry))) r (now (out .exit)) ⌝ }
+    ensures { λ r. ⌜ Stored (now (out .entry)) at (closedRun (now (run .entry))) r
+        (now (out .exit)) ⌝ }
 {
     if run.len() == 0 {
         return at;
@@ -77,7 +83,8 @@ fn put_run(out: &mut [u8], at: usize, run: &[u8]) -> usize
 // The header, the type and the fixed octets, from the start on; the place past them.
 fn put_head(out: &mut [u8], head: &[u8], kind: u8, fixed: &[u8]) -> usize
     requires { ⌜ length (headPieces (now head) kind (now fixed)) ≤ length (now out) ⌝ }
-    ensures { λ r. ⌜ Stored (now (out .entry)) 0 (headPieces (now (head .entry)) kind (now (fixed .entry))) r (now (out .exit)) ⌝ }
+    ensures { λ r. ⌜ Stored (now (out .entry)) 0
+        (headPieces (now (head .entry)) kind (now (fixed .entry))) r (now (out .exit)) ⌝ }
 {
     let typed = put_all(out, 0, head);
     let past = put(out, typed, kind);
@@ -86,8 +93,10 @@ fn put_head(out: &mut [u8], head: &[u8], kind: u8, fixed: &[u8]) -> usize
 
 // The pointers that the shape has, from `at` on; the place past them.
 fn put_pointers(out: &mut [u8], at: usize, shape: Shape, pointers: Pointers) -> usize
-    requires { ⌜ (at + length (pointerPieces shape pointers) ≤ length (now out)) × Near shape pointers ⌝ }
-    ensures { λ x. ⌜ Stored (now (out .entry)) at (pointerPieces shape pointers) x (now (out .exit)) ⌝ }
+    requires { ⌜ (at + length (pointerPieces shape pointers) ≤ length (now out))
+        × Near shape pointers ⌝ }
+    ensures { λ x. ⌜ Stored (now (out .entry)) at (pointerPieces shape pointers) x
+        (now (out .exit)) ⌝ }
 {
     let one = put_pointer(out, at, 0 < shape.vars, pointers.first);
     let two = put_pointer(out, one, 1 < shape.vars, pointers.second);
@@ -128,15 +137,18 @@ fn store(
     out: &mut [u8],
 )
     requires { ⌜ (length (pieces shape frame (now head) kind (now fixed) (now first) (now second) (now third) (now run)) ≤ length (now out)) × Near shape (frame .pointers) × (length (now first) ≤ 255) × (length (now second) ≤ 255) × (length (now third) ≤ 255) ⌝ }
-    ensures { λ _. ⌜ now (out .exit) ≡ sets (now (out .entry)) 0 (pieces shape frame (now (head .entry)) kind (now (fixed .entry)) (now (first .entry)) (now (second .entry)) (now (third .entry)) (now (run .entry))) ⌝ }
+    ensures { λ _. ⌜ now (out .exit) ≡
+        sets (now (out .entry)) 0 (pieces shape frame (now (head .entry)) kind (now (fixed .entry)) (now (first .entry)) (now (second .entry)) (now (third .entry)) (now (run .entry))) ⌝ }
 {
     let pointing = put_head(out, head, kind, fixed);
     let holding = put_pointers(out, pointing, shape, frame.pointers);
     put_parts(out, holding, shape.vars, first, second, third, run);
 }
 
-// Writes the compact form of a message of that shape: fills the front of `out` and keeps the rest, and answers how many octets were written.
-// Refused with 10, 11, 12, 2, 13 in that order, all before the first store, and then `out` holds what it held.
+// Writes the compact form of a message of that shape: fills the front of `out` and keeps the rest,
+// and answers how many octets were written.
+// Refused with 10, 11, 12, 2, 13 in that order, all before the first store,
+// and then `out` holds what it held.
 pub fn write_parts(
     shape: Shape,
     most: u16,
@@ -149,7 +161,8 @@ pub fn write_parts(
     run: &[u8],
     out: &mut [u8],
 ) -> Written
-    ensures { λ r. ⌜ leaving (writtenTold r) (now (out .exit)) ≡ writePartsOf shape most (order (now (head .entry)) kind (now (fixed .entry)) (now (first .entry)) (now (second .entry)) (now (third .entry)) (now (run .entry))) (now (out .entry)) ⌝ }
+    ensures { λ r. ⌜ leaving (writtenTold r) (now (out .exit)) ≡
+        writePartsOf shape most (order (now (head .entry)) kind (now (fixed .entry)) (now (first .entry)) (now (second .entry)) (now (third .entry)) (now (run .entry))) (now (out .entry)) ⌝ }
 {
     if measuring::unfit(shape, fixed, first, second, third, run) {
         return Written::Refused(10, 0);

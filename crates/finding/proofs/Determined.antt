@@ -1,4 +1,5 @@
--- Any two answers that a public function's contract allows are equal. Of a stretch: the same memory with the same octets.
+-- Any two answers that a public function's contract allows are equal. Of a
+-- stretch: the same memory with the same octets.
 use Prim.Native.Nat.{ℕ}
 use mathlib.Core.Path.{_≡_, sym, ap}
 use mathlib.Core.List.{List, []}

@@ -73,7 +73,8 @@ module _ (d : List ℕ) (name : ℕ) (ds : List Param) (p : Params d 0 ds (lengt
     λ l. nowhere-among ds d 0 name (length d) p (inr (inl ended)) .1 (l ds p),
   )
 
--- found exactly where the paper says: the first of that name in wire order among the message's parameters, else among the defaults'
+-- found exactly where the paper says: the first of that name in wire order among the message's
+-- parameters, else among the defaults'
 pub found-exactly : (m d : List ℕ) (name : ℕ) (s : Spot) → (locateOf m d name ≡ accepted s) ↔ FoundAt m d name s
 unfolding locateOf soughtIn
 found-exactly m d name s = (there, back)

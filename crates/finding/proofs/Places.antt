@@ -1,4 +1,5 @@
--- The octet that a refused search is about: the reader's, handed on; the search's own numbers are about none.
+-- The octet that a refused search is about: the reader's, handed on; the
+-- search's own numbers are about none.
 use Prim.Native.Nat.{ℕ, _≤_, _<_}
 use mathlib.Core.Path.{_≡_, refl}
 use mathlib.Core.List.{List}

@@ -25,7 +25,8 @@ pub elsewhere-refuted : locateOf [] one 0x20 ≡ refused 1 0
 unfolding partsOf readOf locateOf
 elsewhere-refuted = refl
 
--- its contents start at octet 6, and have one octet: a stretch that starts at its own length starts elsewhere
+-- its contents start at octet 6, and have one octet: a stretch that starts at
+-- its own length starts elsewhere
 pub starts-there : stretchStart (locateOf one [] 0x20) ≡ 6
 unfolding stepAt stops stopFrom runFrom isRun seeks namedFrom variableAt optionalAt variableSlot optionalSlot sharesOf judged held containerOf partsOf shapeOf readOf namedIn soughtIn locateOf
 starts-there = refl

@@ -21,7 +21,8 @@ use Rattle.isup.specs.declared.Message.{Message}
 use Rattle.isup.specs.Read.{readOf}
 use Rattle.finding.specs.Find.{Spot, spot, namedIn, inDefaults, inMessage, soughtIn, locateOf, stretchStart, stretchLength, heldBy}
 
--- a search that succeeds: the defaults are a run, the name is an octet, and the message has it, or else the defaults
+-- a search that succeeds: the defaults are a run, the name is an octet, and the
+-- message has it, or else the defaults
 pub record Sought (m : List ℕ) (run : Span) (d : List ℕ) (name : ℕ) (s : Spot) : Type 0 where
   pub run-whole : isRun d ≡ true
   pub octet : ltb 255 name ≡ false

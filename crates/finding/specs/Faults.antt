@@ -7,7 +7,8 @@ use Rattle.runs.specs.Params.{BadRun}
 use Rattle.finding.specs.FoundAt.{Lacks, RunLacks}
 use Rattle.isup.specs.Faults.{readerFaults}
 
--- R22. no such optional parameter: a name is an octet, and neither the message nor the defaults has it
+-- R22. no such optional parameter: a name is an octet, and neither the
+-- message nor the defaults has it
 abbrev pub NoSuch : List ℕ → List ℕ → ℕ → Type 0
 NoSuch m d name = (255 < name) ⊎ (Lacks m name × RunLacks d name)
 

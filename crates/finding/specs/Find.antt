@@ -1,4 +1,5 @@
--- Finding an optional parameter: the first match in wire order in the message, else in the customer's defaults, an optional run without its closing 0.
+-- Finding an optional parameter: the first match in wire order in the message, else in the
+-- customer's defaults, an optional run without its closing 0.
 -- Order: the reader's numbers, 11 for the defaults, 15.
 use Prim.Native.Nat.{ℕ}
 use mathlib.Core.List.{List}
@@ -12,7 +13,8 @@ use Rattle.runs.specs.Run.{isRun, namedFrom}
 use Rattle.isup.specs.Read.{readOf}
 use Rattle.finding.specs.declared.Code.{Code}
 
--- where contents were found: the companion's answer, 0 for the message and 100 for the defaults, then their first octet there and how many octets they are
+-- where contents were found: the companion's answer, 0 for the message and 100 for the defaults,
+-- then their first octet there and how many octets they are
 pub record Spot : Type 0 where
   pub holder : ℕ
   pub start : ℕ
@@ -38,19 +40,23 @@ inMessage Nowhere others = others
 
 -- the message's first parameter of that name, else the defaults'
 abbrev pub firstOf : List ℕ → Span → List ℕ → ℕ → Answer Spot
-firstOf m run defaults name = inMessage (namedIn m run name) (inDefaults (namedFrom defaults 0 name))
+firstOf m run defaults name =
+    inMessage (namedIn m run name) (inDefaults (namedFrom defaults 0 name))
 
--- in a message that reads, its optional run given: 11 for defaults that are no run; a name is an octet, so above 255 there is no such parameter
+-- in a message that reads, its optional run given: 11 for defaults that are no run; a name is an
+-- octet, so above 255 there is no such parameter
 unfoldable pub soughtIn : List ℕ → Span → List ℕ → ℕ → Answer Spot
 soughtIn m run defaults name =
     if isRun defaults then (if ltb 255 name then refused 15 0 else firstOf m run defaults name)
     else refused 11 0
 
--- where the first parameter of that name has its contents, or the refusal: the reader's numbers, 11, 15
+-- where the first parameter of that name has its contents, or the refusal:
+-- the reader's numbers, 11, 15
 unfoldable pub locateOf : List ℕ → List ℕ → ℕ → Answer Spot
 locateOf m defaults name = readOf m then λ x. soughtIn m (x .parts .optional) defaults name
 
--- where the stretch that is handed back starts: a refusal hands back the empty stretch at the message's start
+-- where the stretch that is handed back starts: a refusal hands back the empty
+-- stretch at the message's start
 abbrev pub stretchStart : Answer Spot → ℕ
 stretchStart (accepted s) = s .start
 stretchStart (refused n at) = 0
@@ -60,7 +66,8 @@ abbrev pub stretchLength : Answer Spot → ℕ
 stretchLength (accepted s) = s .len
 stretchLength (refused n at) = 0
 
--- R22. the companion's answer: 0 for the message, 100 for the defaults, or the refusal's number with the octet that it is about
+-- R22. the companion's answer: 0 for the message, 100 for the defaults, or the refusal's number
+-- with the octet that it is about
 abbrev pub codeOf : Answer Spot → Code
 codeOf (accepted s) = record { number = s .holder; place = 0 }
 codeOf (refused n at) = record { number = n; place = at }

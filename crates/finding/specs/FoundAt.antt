@@ -19,12 +19,20 @@ RunLacks d name = (ds : List Param) → Params d 0 ds (length d) → NoneNamed n
 
 -- R20. of the message's parameters the first of that name is the one at the spot
 abbrev pub InMessage : List ℕ → ℕ → Spot → Type 0
-InMessage m name s = (s .holder ≡ 0) × ((x : Message) × (f : WellFormed m x) × FirstNamed m (x .parts .optional .from) (f .params) name (s .start) (s .len))
+InMessage m name s =
+    (s .holder ≡ 0)
+    × ((x : Message) × (f : WellFormed m x)
+    × FirstNamed m (x .parts .optional .from) (f .params) name (s .start) (s .len))
 
--- the message has none, and of the defaults' parameters the first of that name is the one at the spot
+-- the message has none, and of the defaults' parameters the first of that
+-- name is the one at the spot
 abbrev pub InDefaults : List ℕ → List ℕ → ℕ → Spot → Type 0
-InDefaults m d name s = (s .holder ≡ 100) × ((x : Message) × WellFormed m x) × Lacks m name × ((ds : List Param) × Params d 0 ds (length d) × FirstNamed d 0 ds name (s .start) (s .len))
+InDefaults m d name s =
+    (s .holder ≡ 100) × ((x : Message) × WellFormed m x) × Lacks m name
+    × ((ds : List Param) × Params d 0 ds (length d) × FirstNamed d 0 ds name (s .start) (s .len))
 
 -- R21. the defaults are whole parameters, and the spot is the message's, else the defaults'
 abbrev pub FoundAt : List ℕ → List ℕ → ℕ → Spot → Type 0
-FoundAt m d name s = ((ds : List Param) × Params d 0 ds (length d)) × (name ≤ 255) × (InMessage m name s ⊎ InDefaults m d name s)
+FoundAt m d name s =
+    ((ds : List Param) × Params d 0 ds (length d)) × (name ≤ 255)
+    × (InMessage m name s ⊎ InDefaults m d name s)

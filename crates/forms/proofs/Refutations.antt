@@ -1,4 +1,5 @@
--- Wrong tables, each refuted on one word: its row is not what the definition says, which stands here.
+-- Wrong tables, each refuted on one word: its row is not what the
+-- definition says, which stands here.
 use mathlib.Core.Path.{_≡_, refl}
 use Rattle.words.specs.Said.{said}
 use Rattle.forms.specs.Table.{forms}

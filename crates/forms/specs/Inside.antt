@@ -1,4 +1,5 @@
--- What the code's own contracts use: a word as a number, by which its row is found, and the letters of a row in one number.
+-- What the code's own contracts use: a word as a number, by which its row is
+-- found, and the letters of a row in one number.
 use Prim.Native.Nat.{ℕ, zero, suc, _+_, _*_, _-_, _/_, _%_}
 use mathlib.Core.Bool.{Bool, true, false}
 use mathlib.Core.List.{List, [], _∷_}
@@ -48,14 +49,19 @@ lettersPacked (c ∷ cs) = c + 256 * lettersPacked cs
 -- the kinds of up to n letters
 unfoldable pub kindsIn : ℕ → ℕ → List Kind
 kindsIn zero letters = []
-kindsIn (suc n) letters = if eqb letters 0 then [] else kindOf (letters % 256) ∷ kindsIn n (letters / 256)
+kindsIn (suc n) letters =
+    if eqb letters 0 then [] else kindOf (letters % 256) ∷ kindsIn n (letters / 256)
 
 -- the letters of the first row, in one number, where its word has that key; else 0
 abbrev pub lettersNext : List Form → ℕ → ℕ
 lettersNext [] key = 0
 lettersNext (f ∷ fs) key = if eqb key (keyOf (f .word)) then lettersPacked (f .letters) else 0
 
--- the row of a key, from row `which` on, and the letters of the row after it where that is another form of the same word
+-- the row of a key, from row `which` on, and the letters of the row after it
+-- where that is another form of the same word
 unfoldable pub rowIn : List Form → ℕ → ℕ → Row
 rowIn [] which key = record { which = BAD; letters = 0; longer = 0 }
-rowIn (f ∷ fs) which key = if eqb key (keyOf (f .word)) then record { which = which; letters = lettersPacked (f .letters); longer = lettersNext fs key } else rowIn fs (suc which) key
+rowIn (f ∷ fs) which key =
+    if eqb key (keyOf (f .word))
+    then record { which = which; letters = lettersPacked (f .letters); longer = lettersNext fs key }
+    else rowIn fs (suc which) key

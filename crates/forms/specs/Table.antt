@@ -1,4 +1,5 @@
--- The forms of the desk's requests, a row for each. tools/forms writes from it what the code and the proofs say row by row, and holds README.md to it.
+-- The forms of the desk's requests, a row for each. tools/forms writes from it what the code and
+-- the proofs say row by row, and holds README.md to it.
 use Prim.Native.Nat.{ℕ, zero, suc}
 use Prim.Native.String.{String}
 use mathlib.Core.List.{List, [], _∷_, map}
@@ -15,7 +16,8 @@ pub record Form : Type 0 where
 abbrev row : String → String → Form
 row word letters = record { word = said word; letters = said letters }
 
--- the rows; those of one family stand together, and so do the two forms of one word, of which a line has the first that fits
+-- the rows; those of one family stand together, and so do the two forms of one word, of which a
+-- line has the first that fits
 abbrev pub forms : List Form
 forms =
     row "shape" "o"

@@ -1,10 +1,13 @@
-// Which form a line has by its first word: a row of the table of forms, with the letters of its fields' kinds.
+// Which form a line has by its first word: a row of the table of forms, with
+// the letters of its fields' kinds.
 ghost use mathlib.Core.Path.{_≡_};
 ghost use Prim.Native.Nat.{_≤_};
 ghost use Rattle.forms.specs.Table.{forms};
 ghost use Rattle.forms.specs.Inside.{letterOf, keyOf, rowIn};
 
-// A row of the table: its number, and a letter for the kind of each field, the first letter in the lowest octet; and the letters of the word's other form, which is the next row, 0 where it has none.
+// A row of the table: its number, and a letter for the kind of each field, the
+// first letter in the lowest octet; and the letters of the word's other form, which
+// is the next row, 0 where it has none.
 pub struct Row {
     pub which: usize,
     pub letters: u64,
@@ -143,7 +146,8 @@ fn letter(c: u8) -> u64
     0
 }
 
-// The number that stands for a word: 28 for each place, the first letter first; 0 where it has none.
+// The number that stands for a word: 28 for each place, the first letter
+// first; 0 where it has none.
 fn key(word: &[u8]) -> u64
     ensures { λ r. ⌜ r ≡ keyOf (now (word .entry)) ⌝ }
 {
@@ -380,7 +384,8 @@ fn row_of(key: u64) -> Row
     }
 }
 
-// The row that a line's first word has, by the table; where no form has that word, the row's number is 255.
+// The row that a line's first word has, by the table; where no form has that
+// word, the row's number is 255.
 pub fn form_of(word: &[u8]) -> Row
     ensures { λ r. ⌜ r ≡ rowIn forms 0 (keyOf (now (word .entry))) ⌝ }
 {

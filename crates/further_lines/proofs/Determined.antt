@@ -1,4 +1,5 @@
--- Any two outcomes that the contract of `further_turn` allows are equal: the totals, the buffer and the next place.
+-- Any two outcomes that the contract of `further_turn` allows are equal: the
+-- totals, the buffer and the next place.
 use Prim.Native.Nat.{ℕ}
 use mathlib.Core.Path.{_≡_, ap}
 use mathlib.Core.List.{List}

@@ -10,7 +10,8 @@ use Rattle.sccp_lines.specs.Sccp.{sccpLine}
 use Rattle.list_lines.specs.Lists.{listLine}
 use Rattle.busy_lines.specs.Busy.{BusyAfter, busyAfter, busyDone}
 
--- the line of a row past BICC's that leaves the tables: SCCP's, and then those that list parameters; any other is no request
+-- the line of a row past BICC's that leaves the tables: SCCP's, and then those that list
+-- parameters; any other is no request
 unfoldable pub furtherLine : ℕ → List FieldSays → List ℕ
 furtherLine which gs =
     if leb which SCCP-COMPACT then sccpLine which gs

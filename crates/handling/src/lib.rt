@@ -1,4 +1,5 @@
-// A message from a sender, handled: the rows of the circuits that it marks change, and the answer is written.
+// A message from a sender, handled: the rows of the circuits that it marks
+// change, and the answer is written.
 ghost use mathlib.Core.Path.{_≡_};
 ghost use mathlib.Core.Logic.{_⊎_};
 ghost use Prim.Native.Nat.{_+_, _/_, _≤_, _<_};
@@ -30,10 +31,12 @@ fn marked(message: &[u8], status: usize, n: usize) -> bool
     (octet >> by) % 2 == 1
 }
 
-// Carries out what was granted: each named row that is marked changes, and every other row stays. A query changes none.
+// Carries out what was granted: each named row that is marked changes, and every
+// other row stays. A query changes none.
 fn change_rows(states: &mut [u8], message: &[u8], ask: Ask)
     requires { ⌜ (length (now states) ≡ 4096) × Sound (now message) ask ⌝ }
-    ensures { λ _. ⌜ now (states .exit) ≡ rowsAfter (now (message .entry)) ask (now (states .entry)) ⌝ }
+    ensures { λ _. ⌜ now (states .exit) ≡
+        rowsAfter (now (message .entry)) ask (now (states .entry)) ⌝ }
 {
     let act = ask.act;
     match act {
@@ -62,10 +65,12 @@ fn status_of(message: &[u8], status: usize, range: usize) -> &[u8]
     &message[status..end]
 }
 
-// Writes the answer to what was allowed, from the rows as they are: its octets fill the front of `answer` and their count is given; or 13, and all of `answer` is kept.
+// Writes the answer to what was allowed, from the rows as they are: its octets fill the front of
+// `answer` and their count is given; or 13, and all of `answer` is kept.
 fn write_reply(states: &[u8], message: &[u8], ask: Ask, answer: &mut [u8]) -> Written
     requires { ⌜ (length (now states) ≡ 4096) × Sound (now message) ask ⌝ }
-    ensures { λ r. ⌜ leaving (writtenTold r) (now (answer .exit)) ≡ sent (replyOf (now (states .entry)) (now (message .entry)) ask) (now (answer .entry)) ⌝ }
+    ensures { λ r. ⌜ leaving (writtenTold r) (now (answer .exit)) ≡
+        sent (replyOf (now (states .entry)) (now (message .entry)) ask) (now (answer .entry)) ⌝ }
 {
     let act = ask.act;
     let circuit = ask.circuit;
@@ -83,8 +88,10 @@ fn write_reply(states: &[u8], message: &[u8], ask: Ask, answer: &mut [u8]) -> Wr
     )
 }
 
-// A message from a sender: the answer's octets fill the front of `answer` and the named rows of `states` change. The answer has how many octets they are, and which circuits are named.
-// Refused by the paper's order, the reader's numbers with the octet that they are about; a refusal changes no row and no octet of `answer`.
+// A message from a sender: the answer's octets fill the front of `answer` and the named rows of
+// `states` change. The answer has how many octets they are, and which circuits are named.
+// Refused by the paper's order, the reader's numbers with the octet that they are about; a refusal
+// changes no row and no octet of `answer`.
 pub fn handle(
     states: &mut [u8],
     owners: &[u8],
@@ -94,7 +101,8 @@ pub fn handle(
     answer: &mut [u8],
 ) -> Handled
     ensures { λ r. ⌜ handling (handledTold r) (now (states .exit)) (now (answer .exit)) ≡
-        handledOf (tables (now (states .entry)) (now (owners .entry)) (now (helpers .entry))) sender (now (message .entry)) (now (answer .entry)) ⌝ }
+        handledOf (tables (now (states .entry)) (now (owners .entry)) (now (helpers .entry))) sender
+        (now (message .entry)) (now (answer .entry)) ⌝ }
 {
     match judging::judge(states, owners, helpers, sender, message) {
         Verdict::Refused(n, at) => Handled::Refused(n, at),

@@ -5,7 +5,8 @@ ghost use Rattle.layout.specs.Packed.{unpackedOf};
 use layout::Row;
 use layout::Shape;
 
-// The row that a packed one says: 16 for each fixed octet, 4 for each variable parameter, 2 for an optional part, and 1; 0 for a type that is not in the table.
+// The row that a packed one says: 16 for each fixed octet, 4 for each variable parameter, 2 for an
+// optional part, and 1; 0 for a type that is not in the table.
 pub fn row_of(packed: u8) -> Row
     ensures { λ r. ⌜ r ≡ unpackedOf packed ⌝ }
 {

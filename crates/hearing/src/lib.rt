@@ -20,7 +20,8 @@ fn count_one(counters: &mut [u16], sender: u8)
 // no helpers. The owners are lent in their place: who helps only what it owns helps nothing
 // (`owners-help-none`), and no table of zeros has to be made for each message.
 fn hear(owners: &[u8], states: &mut [u8], sender: u8, message: &[u8]) -> bool
-    ensures { λ r. ⌜ heardAs (now (states .exit)) r ≡ heardOf (now (owners .entry)) (now (states .entry)) sender (now (message .entry)) ⌝ }
+    ensures { λ r. ⌜ heardAs (now (states .exit)) r ≡
+        heardOf (now (owners .entry)) (now (states .entry)) sender (now (message .entry)) ⌝ }
 {
     let mut answer = [0u8; 268];
     match acting::act(states, owners, owners, sender as u32, message, &mut answer) {
@@ -38,7 +39,8 @@ pub fn heard_in(
     sender: u8,
     message: &[u8],
 )
-    ensures { λ r. ⌜ day (now (owners .entry)) (now (states .exit)) (now (accepted .exit)) (now (refused .exit)) ≡
+    ensures { λ r. ⌜ day (now (owners .entry)) (now (states .exit)) (now (accepted .exit))
+        (now (refused .exit)) ≡
         heardIn sender (now (message .entry)) (day (now (owners .entry)) (now (states .entry)) (now (accepted .entry)) (now (refused .entry))) ⌝ }
 {
     if hear(owners, states, sender, message) {

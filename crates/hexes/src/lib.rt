@@ -5,10 +5,13 @@ ghost use lib.ListN.{length};
 ghost use Rattle.words.specs.Into.{entry, pairsInto, octetsInto};
 use words::Number;
 
-// Puts the octets that an even number of digits stands for into a buffer from `at` on, up to the first that is no digit.
+// Puts the octets that an even number of digits stands for into a buffer from
+// `at` on, up to the first that is no digit.
 fn put_pairs(word: &[u8], out: &mut [u8], at: usize) -> Number
-    requires { ⌜ (length (now word) ≡ 2 * (length (now word) / 2)) × (at + length (now word) / 2 ≤ length (now out)) × (length (now word) / 2 < 4294967296) ⌝ }
-    ensures { λ r. ⌜ entry r (now (out .exit)) ≡ pairsInto (now (word .entry)) (now (out .entry)) at 0 ⌝ }
+    requires { ⌜ (length (now word) ≡ 2 * (length (now word) / 2))
+        × (at + length (now word) / 2 ≤ length (now out)) × (length (now word) / 2 < 4294967296) ⌝ }
+    ensures { λ r. ⌜ entry r (now (out .exit)) ≡
+        pairsInto (now (word .entry)) (now (out .entry)) at 0 ⌝ }
 {
     let pairs = word.len() / 2;
     let mut count = 0;
@@ -27,10 +30,13 @@ fn put_pairs(word: &[u8], out: &mut [u8], at: usize) -> Number
     Number::Is(count as u32)
 }
 
-// Puts the octets that a word stands for into a buffer from `at` on, and answers how many: `-` for none, or two hexadecimal digits for each of up to `most`.
-// It is no such word, or the buffer has no room: nothing is put, but for the octets before one that is no digit.
+// Puts the octets that a word stands for into a buffer from `at` on, and answers how many: `-` for
+// none, or two hexadecimal digits for each of up to `most`.
+// It is no such word, or the buffer has no room: nothing is put, but for the
+// octets before one that is no digit.
 pub fn octets_into(word: &[u8], most: u32, out: &mut [u8], at: usize) -> Number
-    ensures { λ r. ⌜ entry r (now (out .exit)) ≡ octetsInto most (now (word .entry)) (now (out .entry)) at ⌝ }
+    ensures { λ r. ⌜ entry r (now (out .exit)) ≡
+        octetsInto most (now (word .entry)) (now (out .entry)) at ⌝ }
 {
     if word.len() == 1 {
         if word[0] == b'-' {

@@ -1,4 +1,5 @@
--- What a call leaves: a refusal keeps all, and an accepted call changes the named rows and fills the buffer's front.
+-- What a call leaves: a refusal keeps all, and an accepted call changes the
+-- named rows and fills the buffer's front.
 use Prim.Native.Nat.{ℕ, _+_, _≤_, _<_}
 use mathlib.Core.Path.{_≡_, refl, sym, _∙_, ap}
 use mathlib.Core.Bool.{Bool, false}
@@ -184,7 +185,8 @@ module _ (T : Tables) (sender : ℕ) (m buffer : List ℕ) where
       (λ e. ap (λ (l : List ℕ). octet l c) (act-keeps (e .0) (e .1) (e .2) .0))
       answer-or
 
-  -- only a sender who is not 0 is ever accepted, and none above 255 where owners and helpers are octets
+  -- only a sender who is not 0 is ever accepted, and none above 255 where
+  -- owners and helpers are octets
   pub accepted-sender : (n : ℕ) → actOf T sender m buffer .answer ≡ accepted n → (sender ≡ 0 → ⊥) × (((c : ℕ) → octet (T .owners) c < 256) → ((c : ℕ) → octet (T .helpers) c < 256) → sender < 256)
   accepted-sender n e =
       let d = call-accepted n e in

@@ -207,7 +207,8 @@ module _ (states : List ℕ) (circuit : ℕ) (set : Bool) (buffer : List ℕ) wh
       (λ e. ap (λ (l : List ℕ). octet l c) (desk-keeps (e .0) (e .1) (e .2) .0))
       desk-answer-or
 
-  -- the desk call's rule: the circuit's 8 is set, or cleared; all else that its row says stays, and so does every other row; the answer is BLO, or UBL, with the circuit number as given
+  -- the desk call's rule: the circuit's 8 is set, or cleared; all else that its row says stays, and
+  -- so does every other row; the answer is BLO, or UBL, with the circuit number as given
   pub desk-rule : (n : ℕ) → deskOf states circuit set buffer .answer ≡ accepted n
       → Changes states (deskOf states circuit set buffer .states) circuit 0 every (LocallyBlocked set)
       × Answers buffer (deskOf states circuit set buffer .buffer) n (noticeOf circuit set)
@@ -243,7 +244,8 @@ module _ (states : List ℕ) (circuit : ℕ) (set : Bool) (buffer : List ℕ) wh
       (λ e. subst (λ (l : List ℕ). Legal (octet l c)) (sym (desk-keeps (e .0) (e .1) (e .2) .0)) h)
       desk-answer-or
 
--- what a desk call answers, and what it makes of a row, depends on the length of the table and on the row of its circuit alone
+-- what a desk call answers, and what it makes of a row, depends on the length of the table and on
+-- the row of its circuit alone
 module _ (s t : List ℕ) (circuit : ℕ) (set : Bool) (buffer : List ℕ) (long : length s ≡ length t) (agree : circuit ≤ 4095 → octet s circuit ≡ octet t circuit) where
   grant-alike : deskGrant s circuit (length buffer) ≡ deskGrant t circuit (length buffer)
   unfolding deskGrant
@@ -334,7 +336,8 @@ module _ (states : List ℕ) (circuit : ℕ) (set : Bool) (buffer : List ℕ) wh
               go true h = absurd (refused-accepted (sym (ap (λ (d : Done ℕ). d .answer) h)))
               go false h = λ i. after (h i .answer) (changed i) (h i .left)
 
--- any two answers that the contract of `desk_call` allows are equal, with the states and the answer buffer afterwards
+-- any two answers that the contract of `desk_call` allows are equal, with the
+-- states and the answer buffer afterwards
 pub desk-determined : (states : List ℕ) (circuit : ℕ) (set : Bool) (buffer : List ℕ) (r s : Written) (states₁ states₂ buffer₁ buffer₂ : List ℕ)
     → after (writtenTold r) states₁ buffer₁ ≡ deskOf states circuit set buffer
     → after (writtenTold s) states₂ buffer₂ ≡ deskOf states circuit set buffer

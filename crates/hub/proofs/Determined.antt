@@ -1,4 +1,5 @@
--- Any two answers that the contract of `act` allows are equal, with the states and the answer buffer afterwards; and any two of `judge`.
+-- Any two answers that the contract of `act` allows are equal, with the states and the answer
+-- buffer afterwards; and any two of `judge`.
 use Prim.Native.Nat.{ℕ}
 use mathlib.Core.Path.{_≡_, sym, _∙_, ap}
 use mathlib.Core.List.{List}

@@ -1,4 +1,5 @@
--- Refused exactly when: the number is the first fault in the paper's order, and acceptance is the absence of all.
+-- Refused exactly when: the number is the first fault in the paper's order,
+-- and acceptance is the absence of all.
 use Prim.Native.Nat.{ℕ}
 use mathlib.Core.Path.{_≡_, refl, sym, _∙_, subst}
 use mathlib.Core.List.{List, [], _∷_, _++_}
@@ -77,7 +78,8 @@ module _ (T : Tables) (sender : ℕ) (m : List ℕ) (room : ℕ) (x : Message) (
       (permitted-judges T sender m x f a k)
       (λ b e. subst (λ (y : Ask). Judges (roomed T m room y) (fault 13 0 (Reads m (NoRoom (T .states) m room)) ∷ [])) (permitted T sender a b e .0) roomed-judges)
 
--- a call is refused with the first of its faults, with the octet that it is about, and accepted exactly where there is none
+-- a call is refused with the first of its faults, with the octet that it is about, and accepted
+-- exactly where there is none
 pub act-judges : (T : Tables) (sender : ℕ) (m : List ℕ) (room : ℕ) → Judges (grantOf T sender m room) (actFaults T sender m room)
 unfolding grantOf
 act-judges T sender m room = sized-judges T _ (λ t. judges-then (askOf m) (allowedOf T sender m room) (askFaults m) _ (ask-judges m) (λ a e. asked a e))

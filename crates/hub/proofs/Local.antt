@@ -1,4 +1,5 @@
--- What a call depends on: its message, its sender, the lent buffer, and the states and owners of the circuits that its message names.
+-- What a call depends on: its message, its sender, the lent buffer, and the states and owners of
+-- the circuits that its message names.
 use Prim.Native.Nat.{ℕ, _+_, _≤_, _<_}
 use mathlib.Core.Path.{_≡_, refl, sym, _∙_, ap, subst}
 use mathlib.Core.Bool.{true, false, not}

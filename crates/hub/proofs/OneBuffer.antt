@@ -111,7 +111,8 @@ module _ (owners helpers : List ℕ) where
       (λ r p q.
       sym (eqb-true r (partyOf owners c) (sym (stands-buffer owners helpers (partyOf owners c) r) ∙ p)) ∙ eqb-true r (partyOf owners d) (sym (stands-buffer owners helpers (partyOf owners d) r) ∙ q))
 
-  -- any two merges of the same lists end in the same rows and the same buffers, with the same answer for each message
+  -- any two merges of the same lists end in the same rows and the same buffers,
+  -- with the same answer for each message
   pub order-does-not-matter-kept : (cs ds : List Event) (ls : ℕ → List Event) (s : Standing) → Merged (hubKeeping owners helpers) cs ls → Merged (hubKeeping owners helpers) ds ls → Separate (hubKeeping owners helpers) cs
       → (stateAfter (hubKeeping owners helpers) cs s .rows ≡ stateAfter (hubKeeping owners helpers) ds s .rows)
       × ((q : ℕ) → stateAfter (hubKeeping owners helpers) cs s .buffers q ≡ stateAfter (hubKeeping owners helpers) ds s .buffers q)

@@ -66,7 +66,8 @@ module _ (owners helpers : List ℕ) where
       ))
       (chosen (ltb 4095 i) e)
 
-  -- the condition in the paper's words: no two different parties of the list have a right, as owner or helper, on the same circuit
+  -- the condition in the paper's words: no two different parties of the list have a right, as owner
+  -- or helper, on the same circuit
   pub separate-says : (cs : List Call) → Separate (hub owners helpers) cs
       ↔ ((c d : Call) → Has (hub owners helpers) c cs → Has (hub owners helpers) d cs → (i : ℕ) → i ≤ 4095 → RightOf owners helpers (partyOf owners (c .asks)) i → RightOf owners helpers (partyOf owners (d .asks)) i → partyOf owners (c .asks) ≡ partyOf owners (d .asks))
   separate-says cs = (
@@ -81,7 +82,8 @@ module _ (owners helpers : List ℕ) where
       owned : (i q : ℕ) → RightOf owners helpers q i → octet owners i ≡ q
       owned i q r = ⊎-elim (λ e. e) (λ w. absurd (w .1 (sym (w .0) ∙ none i))) r
 
-  -- a helper that sends nothing is no obstacle: whatever the tables say, the calls of one party are no two parties' calls
+  -- a helper that sends nothing is no obstacle: whatever the tables say, the
+  -- calls of one party are no two parties' calls
   pub one-party : (q : ℕ) (cs : List Call) → ((c : Call) → Has (hub owners helpers) c cs → partyOf owners (c .asks) ≡ q) → Separate (hub owners helpers) cs
   one-party q cs all c d h k i p r = all c h ∙ sym (all d k)
 
@@ -202,11 +204,13 @@ hub-apart owners helpers = record {
     cons-same : {a b : ℕ} → a ∷ [] ≡ b ∷ [] → a ≡ b
     cons-same e = cc
 
--- for every list whose parties have no right in common, and every party: its answers in the run of the whole list are its answers in the run of its own calls alone, one by one
+-- for every list whose parties have no right in common, and every party: its answers in the run of
+-- the whole list are its answers in the run of its own calls alone, one by one
 pub party-answers-alone : (owners helpers : List ℕ) (cs : List Call) → Separate (hub owners helpers) cs → (party : ℕ) (s : List ℕ) → answersOf (hub owners helpers) party cs s ≡ answers (hub owners helpers) (callsOf (hub owners helpers) party cs) s
 party-answers-alone owners helpers cs z party s = own-answers (hub owners helpers) (hub-apart owners helpers) cs z party s
 
--- a row on which a party of the list has a right ends as it does in the run of that party's calls alone
+-- a row on which a party of the list has a right ends as it does in the run
+-- of that party's calls alone
 pub rows-end-alone : (owners helpers : List ℕ) (cs : List Call) → Separate (hub owners helpers) cs → (d : Call) → Has (hub owners helpers) d cs → (i : ℕ) → i ≤ 4095 → RightOf owners helpers (partyOf owners (d .asks)) i → (s : List ℕ)
     → octet (stateAfter (hub owners helpers) cs s) i ≡ octet (stateAfter (hub owners helpers) (callsOf (hub owners helpers) (partyOf owners (d .asks)) cs) s) i
 rows-end-alone owners helpers cs z d h i l r s = own-rows (hub owners helpers) (hub-apart owners helpers) cs z d h i (holds-right owners helpers _ i l r) s
@@ -237,7 +241,8 @@ owned-rows-end-alone owners helpers none cs i s =
 abbrev pub NoDesk : ℕ → List Call → Type 0
 NoDesk i cs = (circuit : ℕ) (set : Bool) (buffer : List ℕ) → Has (hub [] []) (record { asks = ours circuit set; buffer = buffer }) cs → circuit ≡ i → ⊥
 
--- a row that nobody owns or helps is changed by no message: it stays where no desk call is on its circuit
+-- a row that nobody owns or helps is changed by no message: it stays where no
+-- desk call is on its circuit
 pub nobodys-rows-stay : (owners helpers : List ℕ) (cs : List Call) (i : ℕ) (s : List ℕ) → octet owners i ≡ 0 → octet helpers i ≡ 0 → NoDesk i cs → octet (stateAfter (hub owners helpers) cs s) i ≡ octet s i
 unfolding stateAfter
 nobodys-rows-stay owners helpers [] i s z y out = refl
@@ -290,7 +295,9 @@ module _ (owners helpers : List ℕ) (i : ℕ) (z : octet owners i ≡ 0) (y : o
   pub nobodys-rows-desk : (cs : List Call) (s : List ℕ) → octet (stateAfter (hub owners helpers) cs s) i ≡ octet (stateAfter (hub owners helpers) (callsOf (hub owners helpers) 0 cs) s) i
   nobodys-rows-desk cs s = ends-alike cs s s refl refl
 
--- where no two different parties of the list have a right on the same circuit, any two merges of the same lists end in the same rows, with the same answer for each call: a desk call counts as a call of its circuit's owner, and party 0 is one more party
+-- where no two different parties of the list have a right on the same circuit, any two merges of
+-- the same lists end in the same rows, with the same answer for each call: a desk call counts as a
+-- call of its circuit's owner, and party 0 is one more party
 pub order-does-not-matter : (owners helpers : List ℕ) (cs ds : List Call) (ls : ℕ → List Call) (s : List ℕ) → Merged (hub owners helpers) cs ls → Merged (hub owners helpers) ds ls → Separate (hub owners helpers) cs
     → (stateAfter (hub owners helpers) cs s ≡ stateAfter (hub owners helpers) ds s) × ((party : ℕ) → answersOf (hub owners helpers) party cs s ≡ answersOf (hub owners helpers) party ds s)
 order-does-not-matter owners helpers cs ds ls s m n z = (
@@ -312,7 +319,8 @@ order-with-no-helpers owners helpers none cs ds ls s m n = order-does-not-matter
 pub as-if-alone : (owners helpers : List ℕ) (cs : List Call) (ls : ℕ → List Call) (s : List ℕ) → Merged (hub owners helpers) cs ls → Separate (hub owners helpers) cs → (party : ℕ) → answersOf (hub owners helpers) party cs s ≡ answers (hub owners helpers) (ls party) s
 as-if-alone owners helpers cs ls s m z = merge-answers-alone (hub owners helpers) (hub-apart owners helpers) cs ls m z s
 
--- the calls are those of `act` and `desk_call`: each answers and leaves what the definition says that the function answers and leaves
+-- the calls are those of `act` and `desk_call`: each answers and leaves what the definition says
+-- that the function answers and leaves
 pub hub-is-act : (owners helpers : List ℕ) (sender : ℕ) (m buffer s : List ℕ) →
     let c : Call = record { asks = heard sender m; buffer = buffer } in
     (hub owners helpers .party c ≡ sender)
@@ -330,13 +338,15 @@ pub hub-is-desk : (owners helpers : List ℕ) (circuit : ℕ) (set : Bool) (buff
     × (hub owners helpers .after c s ≡ deskOf s circuit set buffer .states)
 hub-is-desk owners helpers circuit set buffer s = ((λ h. rw (le-ltb 4095 circuit h) refl), (λ h. rw (lt-ltb 4095 circuit h) refl), refl, refl, refl)
 
--- the rules at every call, with no condition: the rows after it, and its answer, are those at the rows that the calls before it left
+-- the rules at every call, with no condition: the rows after it, and its answer, are those at the
+-- rows that the calls before it left
 pub rules-in-order : (owners helpers : List ℕ) (cs ds : List Call) (c : Call) (s : List ℕ)
     → (stateAfter (hub owners helpers) (cs ++ (c ∷ [])) s ≡ hub owners helpers .after c (stateAfter (hub owners helpers) cs s))
     × (answers (hub owners helpers) (cs ++ (c ∷ ds)) s ≡ answers (hub owners helpers) cs s ++ (hub owners helpers .answer c (stateAfter (hub owners helpers) cs s) ∷ answers (hub owners helpers) ds (hub owners helpers .after c (stateAfter (hub owners helpers) cs s))))
 rules-in-order owners helpers cs ds c s = (state-so-far (hub owners helpers) cs c s, answer-so-far (hub owners helpers) cs ds c s)
 
--- a row that is not legal stays: so where 20 alone were looked at before 19, no merge of calls would show it
+-- a row that is not legal stays: so where 20 alone were looked at before 19,
+-- no merge of calls would show it
 pub illegal-stays : (T : Tables) (sender : ℕ) (m buffer : List ℕ) (c : ℕ) → (Legal (octet (T .states) c) → ⊥) → octet (actOf T sender m buffer .states) c ≡ octet (T .states) c
 unfolding actOf
 illegal-stays T sender m buffer c h = go (grantOf T sender m (length buffer)) refl

@@ -1,4 +1,5 @@
--- Every message of an answer reads, in the compact form: it carries the circuit of the message, and its type is the one that answers.
+-- Every message of an answer reads, in the compact form: it carries the circuit of the message, and
+-- its type is the one that answers.
 use Prim.Native.Nat.{ℕ, _+_}
 use mathlib.Core.Path.{_≡_, refl, sym, _∙_, ap, subst}
 use mathlib.Core.List.{List, [], _∷_, _++_, append-nil}
@@ -75,7 +76,8 @@ module _ (T : Tables) (sender : ℕ) (m buffer : List ℕ) (x : Message) (n : �
       rw front
       (answer-reads (a .act) (a .circuit) (a .range) (a .block) _ _ (omega arith) (s .few) (s .fewer))
 
-  -- every message of the answer reads, with circuit m and the type that answers, and is in the compact form; where there are two they stand one after the other, and nothing else does
+  -- every message of the answer reads, with circuit m and the type that answers, and is in the
+  -- compact form; where there are two they stand one after the other, and nothing else does
   pub reply-reads : (says : List Saying) × (saidTypes says ≡ answerTypes (x .kind) (octet (T .states) (x .circuit))) × ReadInTurn (take n (actOf T sender m buffer .buffer)) (x .circuit) says
   reply-reads =
       let w = asked T sender m buffer x n ok in

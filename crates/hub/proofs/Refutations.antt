@@ -1,4 +1,5 @@
--- Wrong orders of checks and stores, each refuted on one call: what the wrong order leaves is not what the definition says.
+-- Wrong orders of checks and stores, each refuted on one call: what the wrong order leaves is not
+-- what the definition says.
 use Prim.Native.Nat.{ℕ, suc, _+_}
 use mathlib.Core.Path.{_≡_, refl, sym, _∙_, ap}
 use mathlib.Core.Bool.{Bool, true, false}
@@ -82,7 +83,8 @@ block-granted =
     grant-sized (lent 0 1) 1 block 268 (rows-sized 0) (owned-sized 1) (owned-sized 0)
     ∙ ap (λ z. z then allowedOf (lent 0 1) 1 block 268) block-asks
 
--- sender 1 owns every circuit, every row is 0, and the buffer is empty: the wrong order leaves circuit 0 blocked, and 13 keeps every row
+-- sender 1 owns every circuit, every row is 0, and the buffer is empty: the wrong order leaves
+-- circuit 0 blocked, and 13 keeps every row
 pub marked-before-13 : markedFirst (lent 0 1) 1 block [] (grantOf (lent 0 1) 1 block 268) ≡ actOf (lent 0 1) 1 block [] → ⊥
 unfolding applied changedRow blockedRow markOf replyOf
 marked-before-13 e =
@@ -143,7 +145,8 @@ query-asks : askOf query ≡ accepted (rangeAsk query Query 0 (span 5 6))
 unfolding askOf askedIn actFor brokenRange readOf partsOf containerOf variableSlot variableAt optionalSlot judged sharesOf shapeOf held
 query-asks = refl
 
--- the sender's row is not legal: a hub that does not look answers with a state that no circuit has, and the definition gives 20
+-- the sender's row is not legal: a hub that does not look answers with a state that no circuit has,
+-- and the definition gives 20
 pub illegal-untold : (askOf query then unlooked (lent 5 1) 1 query 268) ≡ grantOf (lent 5 1) 1 query 268 → ⊥
 unfolding allowedOf permittedOf isUnhelpable mayHelp firstNot isLegal replyOf statusIn
 illegal-untold e =
@@ -197,7 +200,8 @@ holds-none i e =
     (λ (o : (octet unhelped i ≡ 1) × (_≡_ {A = ℕ} 1 0 → ⊥)). let z = sym (getD-replicate 4096 i 0 0 (omega (arith, w .0))) ∙ o .0 in omega (arith, z))
     (w .1)
 
--- 20 looked at before 19: sender 1, who owns nothing, is told whether a stranger's row is legal. So what a call answers does not depend on its own rows alone
+-- 20 looked at before 19: sender 1, who owns nothing, is told whether a stranger's row is legal. So
+-- what a call answers does not depend on its own rows alone
 pub sees-a-stranger : Apart (hubBy legalFirst (owned 2)) → ⊥
 unfolding firstNot isLegal
 sees-a-stranger A =
@@ -239,7 +243,8 @@ strangerFirst = seizedBy 1 ∷ seizedBy 2 ∷ []
 abbrev ownerFirst : List Call
 ownerFirst = seizedBy 2 ∷ seizedBy 1 ∷ []
 
--- two merges of the same lists, in which sender 1 has different answers: 19 where its call comes first, and 21 where it comes after sender 2's
+-- two merges of the same lists, in which sender 1 has different answers: 19 where its call comes
+-- first, and 21 where it comes after sender 2's
 pub depends-on-the-merge : (ls : ℕ → List Call) × Merged hurried strangerFirst ls × Merged hurried ownerFirst ls
     × (answersOf hurried 1 strangerFirst (rows 0) ≡ answersOf hurried 1 ownerFirst (rows 0) → ⊥)
 unfolding callsOf answersOf allowedOf permittedOf isUnhelpable mayHelp firstNot isLegal applied changedRow markOf replyOf
@@ -279,7 +284,8 @@ helpedFirst T sender m room a =
     else if isFound (firstForeign (T .owners) (T .helpers) sender (a .circuit) (a .range + 1)) then refused 19 0
     else allowedOf T sender m room a
 
--- IAM on a stranger's circuit: the wrong order speaks of a help that the sender does not give, and the definition gives 19
+-- IAM on a stranger's circuit: the wrong order speaks of a help that the sender
+-- does not give, and the definition gives 19
 pub helped-before-foreign : (askOf seize then helpedFirst (lent 0 2) 1 seize 0) ≡ grantOf (lent 0 2) 1 seize 0 → ⊥
 unfolding allowedOf permittedOf isUnhelpable mayHelp firstNot
 helped-before-foreign e =
@@ -332,7 +338,8 @@ blocked-then-seized h =
     ∙ ap (λ (g : Answer Ask). carriedOut (helpedBy1 0) seize [] g .answer) seize-granted in
     refused-accepted r
 
--- two merges of the same lists, in which the owner has different answers: 21 where the helper's block comes first, and none where it comes after
+-- two merges of the same lists, in which the owner has different answers: 21 where the helper's
+-- block comes first, and none where it comes after
 pub helpers-merge-matters : (ls : ℕ → List Call) × Merged shared (helperBlocks ∷ seizedBy 2 ∷ []) ls × Merged shared (seizedBy 2 ∷ helperBlocks ∷ []) ls
     × (answersOf shared 2 (helperBlocks ∷ seizedBy 2 ∷ []) (rows 0) ≡ answersOf shared 2 (seizedBy 2 ∷ helperBlocks ∷ []) (rows 0) → ⊥)
 unfolding callsOf answersOf
@@ -362,7 +369,8 @@ legalBeforeHelped T sender m room a =
     else if isUnhelpable T sender a then refused 22 0
     else allowedOf T sender m room a
 
--- the helper seizes a circuit whose row is not legal: the wrong order gives 20, and the definition 22
+-- the helper seizes a circuit whose row is not legal: the wrong order gives
+-- 20, and the definition 22
 pub illegal-before-helped : (askOf seize then legalBeforeHelped (helpedBy1 5) 1 seize 0) ≡ grantOf (helpedBy1 5) 1 seize 0 → ⊥
 unfolding allowedOf permittedOf isUnhelpable mayHelp firstNot isLegal
 illegal-before-helped e =

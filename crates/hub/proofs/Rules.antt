@@ -140,7 +140,8 @@ module _ (T : Tables) (sender : ℕ) (m buffer : List ℕ) (x : Message) (n : �
       let q = asks Release e in
       (changes a q Released (λ i l. released _), answers a q _ refl)
 
-  -- RSC: state 0 but for the 8, which is kept; answer RLC without optional part, and where the 8 is set BLO followed by RLC, seven octets
+  -- RSC: state 0 but for the 8, which is kept; answer RLC without optional part, and where the 8 is
+  -- set BLO followed by RLC, seven octets
   pub rsc-rule : x .kind ≡ RSC → Changes (T .states) (actOf T sender m buffer .states) (x .circuit) 0 every Cleared
       × (local (octet (T .states) (x .circuit)) ≡ 0 → Answers buffer (actOf T sender m buffer .buffer) n ((x .circuit % 256) ∷ (x .circuit / 256) ∷ RLC ∷ 0 ∷ []))
       × (local (octet (T .states) (x .circuit)) ≡ 1 → Answers buffer (actOf T sender m buffer .buffer) n ((x .circuit % 256) ∷ (x .circuit / 256) ∷ BLO ∷ (x .circuit % 256) ∷ (x .circuit / 256) ∷ RLC ∷ 0 ∷ []))
@@ -170,7 +171,8 @@ module _ (T : Tables) (sender : ℕ) (m buffer : List ℕ) (x : Message) (n : �
       let q = asks Unblock e in
       (changes a q UnblockedForMaintenance (λ i l. unblocked-maintenance _), answers a q _ refl)
 
-  -- GRS: circuits m to m+r get state 0 but for the 8, which is kept; answer GRA: r, then r/8+1 octets, whose bit i is 1 exactly where circuit m+i is locally blocked, spare bits 0
+  -- GRS: circuits m to m+r get state 0 but for the 8, which is kept; answer GRA: r, then r/8+1
+  -- octets, whose bit i is 1 exactly where circuit m+i is locally blocked, spare bits 0
   pub grs-rule : x .kind ≡ GRS →
       let r = rangeIn m (x .parts .first) in
       Changes (T .states) (actOf T sender m buffer .states) (x .circuit) r every Cleared
@@ -257,7 +259,8 @@ module _ (T : Tables) (sender : ℕ) (m buffer : List ℕ) (x : Message) (n : �
     subst (λ (i : ℕ). Acknowledges buffer (actOf T sender m buffer .buffer) n m x CGUA i) k (group-answers UnblockGroup CGUA (indicatorIn m x) (asks UnblockGroup e) refl),
   )
 
-  -- CQM: no row changes; answer CQR: r, then r+1 octets, octet i being the circuit state of row m+i, which says what 003, 3.12, has for that row
+  -- CQM: no row changes; answer CQR: r, then r+1 octets, octet i being the circuit state of row
+  -- m+i, which says what 003, 3.12, has for that row
   pub cqm-rule : x .kind ≡ CQM →
       let r = rangeIn m (x .parts .first) in
       (actOf T sender m buffer .states ≡ T .states)

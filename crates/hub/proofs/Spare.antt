@@ -1,4 +1,5 @@
--- Two messages that differ in spare bits alone are treated alike: the same answer, the same rows, the same buffer.
+-- Two messages that differ in spare bits alone are treated alike: the same
+-- answer, the same rows, the same buffer.
 use Prim.Native.Nat.{ℕ, _+_, _-_, _/_, _≤_}
 use mathlib.Core.Path.{_≡_, refl, sym, _∙_, ap}
 use mathlib.Core.Bool.{Bool, true, false}

@@ -1,4 +1,5 @@
--- Where nobody helps: the owners' table, lent in place of the helpers', is as good as a table of zeros.
+-- Where nobody helps: the owners' table, lent in place of the helpers', is
+-- as good as a table of zeros.
 use Prim.Native.Nat.{ℕ, _+_}
 use mathlib.Core.Path.{_≡_, refl, sym, _∙_, ap}
 use mathlib.Core.Bool.{Bool, true, false}
@@ -17,7 +18,8 @@ use Rattle.rights.specs.Rights.{isMine, hasRight, firstNot, firstIllegal, isFou
 use Rattle.rights.specs.Permits.{isTaken, isUnhelpable, permittedOf}
 use Rattle.hub.specs.Acts.{roomed, allowedOf, grantOf, carriedOut, actOf}
 
--- of the helpers only who has a right counts: two tables of one length that give the sender the same rights give it the same call
+-- of the helpers only who has a right counts: two tables of one length that give the sender the
+-- same rights give it the same call
 pub rights-count : (s o h k : List ℕ) (q : ℕ) → length h ≡ length k → ((c : ℕ) → hasRight o h q c ≡ hasRight o k q c) → (m b : List ℕ) → actOf (tables s o h) q m b ≡ actOf (tables s o k) q m b
 unfolding actOf grantOf allowedOf permittedOf isUnhelpable
 rights-count s o h k q l e m b = ap (carriedOut (tables s o h) m b) granted ∙ carried (grantOf (tables s o k) q m (length b))

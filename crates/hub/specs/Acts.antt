@@ -40,10 +40,12 @@ pub record After : Type 0 where
 abbrev pub after : Answer ℕ → List ℕ → List ℕ → After
 after answer states buffer = record { answer = answer; states = states; buffer = buffer }
 
--- what is granted is carried out: the answer's octets, from the rows as they were, fill the buffer's front and their count is given, and the named rows change. A refusal keeps both
+-- what is granted is carried out: the answer's octets, from the rows as they were, fill the
+-- buffer's front and their count is given, and the named rows change. A refusal keeps both
 abbrev pub carriedOut : Tables → List ℕ → List ℕ → Answer Ask → After
 carriedOut T m buffer (accepted a) =
-    after (accepted (length (replyOf (T .states) m a))) (rowsAfter m a (T .states)) (filled (replyOf (T .states) m a) buffer)
+    after (accepted (length (replyOf (T .states) m a))) (rowsAfter m a (T .states))
+    (filled (replyOf (T .states) m a) buffer)
 carriedOut T m buffer (refused n at) = after (refused n at) (T .states) buffer
 
 -- a call; a refusal has the reader's octet, or 0

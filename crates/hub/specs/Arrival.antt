@@ -1,4 +1,5 @@
--- A list of calls on one table, over owners and helpers that do not change: messages that are heard, and desk calls.
+-- A list of calls on one table, over owners and helpers that do not change:
+-- messages that are heard, and desk calls.
 use Prim.Native.Nat.{ℕ, _/_, _%_}
 use mathlib.Core.Path.{_≡_}
 use mathlib.Core.Bool.{Bool, true, false}
@@ -14,7 +15,8 @@ use Rattle.rights.specs.Tables.{tables}
 use Rattle.hub.specs.Acts.{After, actOf}
 use Rattle.hub.specs.Desk.{deskOf}
 
--- what is asked: a message that is heard from a sender, or a desk call, our own block on a circuit set or cleared
+-- what is asked: a message that is heard from a sender, or a desk call, our
+-- own block on a circuit set or cleared
 pub data Event : Type 0 where
   heard : ℕ → List ℕ → Event
   ours : ℕ → Bool → Event
@@ -24,7 +26,8 @@ pub record Call : Type 0 where
   pub asks : Event
   pub buffer : List ℕ
 
--- R47. whose call it is: a message is its sender's, and a desk call is the owner's of its circuit; party 0 where nobody owns it or it is above 4095
+-- R47. whose call it is: a message is its sender's, and a desk call is the owner's of its circuit;
+-- party 0 where nobody owns it or it is above 4095
 abbrev pub partyOf : List ℕ → Event → ℕ
 partyOf owners (heard sender message) = sender
 partyOf owners (ours circuit set) = if ltb 4095 circuit then 0 else octet owners circuit
@@ -36,14 +39,16 @@ pub record Reply : Type 0 where
 
 -- what is done, each by the definition that `act` and `desk_call` are proved to meet
 abbrev pub doneBy : List ℕ → List ℕ → Event → List ℕ → List ℕ → After
-doneBy owners helpers (heard sender message) buffer states = actOf (tables states owners helpers) sender message buffer
+doneBy owners helpers (heard sender message) buffer states =
+    actOf (tables states owners helpers) sender message buffer
 doneBy owners helpers (ours circuit set) buffer states = deskOf states circuit set buffer
 
 -- the answer and the buffer of it
 abbrev pub replied : After → Reply
 replied r = record { answer = r .answer; buffer = r .buffer }
 
--- a party has a right on the circuits that it owns or helps, and party 0 on those that nobody owns; 0 helps nothing, and above 4095 there is no circuit
+-- a party has a right on the circuits that it owns or helps, and party 0 on those that nobody owns;
+-- 0 helps nothing, and above 4095 there is no circuit
 abbrev pub holdsOf : List ℕ → List ℕ → ℕ → ℕ → Bool
 holdsOf owners helpers q i =
     if ltb 4095 i then false
@@ -91,7 +96,8 @@ standingAt s j = if eqb (j % 2) 0 then octet (s .rows) (j / 2) ∷ [] else s .bu
 
 -- a party has a right on the rows that it holds and on its own buffer
 abbrev pub standsOf : List ℕ → List ℕ → ℕ → ℕ → Bool
-standsOf owners helpers q j = if eqb (j % 2) 0 then holdsOf owners helpers q (j / 2) else eqb (j / 2) q
+standsOf owners helpers q j =
+    if eqb (j % 2) 0 then holdsOf owners helpers q (j / 2) else eqb (j / 2) q
 
 -- the same hub, with its buffers kept
 abbrev pub hubKeeping : List ℕ → List ℕ → Calls
@@ -106,5 +112,10 @@ hubKeeping owners helpers =
       party = partyOf owners;
       holds = standsOf owners helpers;
       answer = λ a s. hub owners helpers .answer (lending owners s a) (s .rows);
-      after = λ a s. record { rows = hub owners helpers .after (lending owners s a) (s .rows); buffers = lentAgain (s .buffers) (partyOf owners a) (hub owners helpers .answer (lending owners s a) (s .rows) .buffer) };
+      after = λ a s. record {
+        rows = hub owners helpers .after (lending owners s a) (s .rows);
+        buffers =
+            lentAgain (s .buffers) (partyOf owners a)
+            (hub owners helpers .answer (lending owners s a) (s .rows) .buffer);
+      };
     }

@@ -1,4 +1,5 @@
--- What a call does, with the circuits that its message names. Crates that keep more than the rows, such as totals, use it.
+-- What a call does, with the circuits that its message names. Crates that keep
+-- more than the rows, such as totals, use it.
 use Prim.Native.Nat.{ℕ, _+_}
 use mathlib.Core.List.{List}
 use Rattle.octets.specs.Answer.{Answer, accepted, refused}

@@ -1,4 +1,5 @@
--- R34. The hub's faults, each in the words of its rule, in the order of checking: 16, the reader's, 17, 14, 18, 19, 22, 20, 21, 13.
+-- R34. The hub's faults, each in the words of its rule, in the order of checking: 16, the reader's,
+-- 17, 14, 18, 19, 22, 20, 21, 13.
 use Prim.Native.Nat.{ℕ, _+_, _<_}
 use mathlib.Core.List.{List, [], _∷_, _++_}
 use lib.Dec.{eqb}
@@ -14,7 +15,9 @@ use Rattle.asks.specs.Faults.{Reads, rangeGiven, askFaults}
 use Rattle.rights.specs.Tables.{Tables}
 use Rattle.rights.specs.Faults.{WrongTables, rightFaults}
 
--- how many octets answer a type with range r, where circuit m has that row: none answer IAM; RLC has 4, and 3 more for BLO before it where RSC finds the circuit locally blocked; BLA and UBA have 3; GRA has 6 before its status, CGBA and CGUA 7; CQR has 9+r
+-- how many octets answer a type with range r, where circuit m has that row: none answer IAM; RLC
+-- has 4, and 3 more for BLO before it where RSC finds the circuit locally blocked; BLA and UBA have
+-- 3; GRA has 6 before its status, CGBA and CGUA 7; CQR has 9+r
 abbrev pub answerSize : ℕ → ℕ → ℕ → ℕ
 answerSize kind r row =
     if eqb kind IAM then 0
@@ -32,7 +35,8 @@ NoRoom states m room x = room < answerSize (x .kind) (rangeGiven m x) (octet sta
 -- what a call may be refused for, once the tables have their lengths
 abbrev pub pastTables : Tables → ℕ → List ℕ → ℕ → List Fault
 pastTables T sender m room =
-    askFaults m ++ (rightFaults T sender m ++ (fault 13 0 (Reads m (NoRoom (T .states) m room)) ∷ []))
+    askFaults m
+    ++ (rightFaults T sender m ++ (fault 13 0 (Reads m (NoRoom (T .states) m room)) ∷ []))
 
 -- R34. what a call may be refused for
 abbrev pub actFaults : Tables → ℕ → List ℕ → ℕ → List Fault

@@ -1,4 +1,5 @@
--- The words of 'Circuit rules': what an accepted call leaves. What becomes of a row is said in crate `rows`.
+-- The words of 'Circuit rules': what an accepted call leaves. What becomes of
+-- a row is said in crate `rows`.
 use Prim.Native.Nat.{ℕ, _+_, _/_, _%_, _≤_, _<_}
 use mathlib.Core.Path.{_≡_}
 use mathlib.Core.Bool.{Bool, true, false}
@@ -19,10 +20,13 @@ use Rattle.replies.specs.Rules.{Marks}
 use Rattle.rights.specs.Tables.{Tables}
 use Rattle.hub.specs.Acts.{actOf}
 
--- R42. of circuits m to m+r the marked rows change as said, the unmarked stay, and every other row stays
+-- R42. of circuits m to m+r the marked rows change as said, the unmarked
+-- stay, and every other row stays
 pub record Changes (states states′ : List ℕ) (circuit range : ℕ) (marked : ℕ → Bool) (Becomes : ℕ → ℕ → Type 0) : Type 0 where
-  pub named : (i : ℕ) → i ≤ range → marked i ≡ true → Becomes (octet states (circuit + i)) (octet states′ (circuit + i))
-  pub unmarked : (i : ℕ) → i ≤ range → marked i ≡ false → octet states′ (circuit + i) ≡ octet states (circuit + i)
+  pub named : (i : ℕ) → i ≤ range → marked i ≡ true
+      → Becomes (octet states (circuit + i)) (octet states′ (circuit + i))
+  pub unmarked : (i : ℕ) → i ≤ range → marked i ≡ false
+      → octet states′ (circuit + i) ≡ octet states (circuit + i)
   pub others : (c : ℕ) → (c < circuit) ⊎ (circuit + range < c) → octet states′ c ≡ octet states c
 
 -- each named circuit is marked
@@ -38,15 +42,20 @@ pub record Accepts (T : Tables) (sender : ℕ) (m buffer : List ℕ) (x : Messag
   pub reads : WellFormed m x
   pub answer : actOf T sender m buffer .answer ≡ accepted n
 
--- R43. CGBA and CGUA: circuit m, the type, the indicator (spare bits 0), then range and status as the one variable parameter
+-- R43. CGBA and CGUA: circuit m, the type, the indicator (spare bits 0), then range and status as
+-- the one variable parameter
 abbrev pub Acknowledges : List ℕ → List ℕ → ℕ → List ℕ → Message → ℕ → ℕ → Type 0
 Acknowledges buffer buffer′ n m x type indicator =
     let r = rangeIn m (x .parts .first) in
     (status : List ℕ)
     × Marks m (x .parts .first .from + 1) r status
-    × Answers buffer buffer′ n ((x .circuit % 256) ∷ (x .circuit / 256) ∷ type ∷ indicator ∷ 1 ∷ (1 + width r) ∷ r ∷ status)
+    × Answers buffer buffer′ n ((x .circuit % 256) ∷ (x .circuit / 256) ∷ type ∷ indicator ∷ 1
+    ∷ (1 + width r) ∷ r ∷ status)
 
--- R45. the types that answer a type, in turn, where circuit m has that row: none answers IAM; REL and RSC are answered by RLC, and BLO stands before it where RSC finds the circuit locally blocked; BLO by BLA, UBL by UBA, GRS by GRA, CGB by CGBA, CGU by CGUA, CQM by CQR; and no other is answered
+-- R45. the types that answer a type, in turn, where circuit m has that row: none
+-- answers IAM; REL and RSC are answered by RLC, and BLO stands before it where RSC
+-- finds the circuit locally blocked; BLO by BLA, UBL by UBA, GRS by GRA, CGB by CGBA,
+-- CGU by CGUA, CQM by CQR; and no other is answered
 unfoldable pub answerTypes : ℕ → ℕ → List ℕ
 answerTypes kind row =
     if eqb kind REL then RLC ∷ []

@@ -1,4 +1,5 @@
--- Reading and writing again: the one compact form, or 12 where it cannot hold a length or a pointer, and nothing else.
+-- Reading and writing again: the one compact form, or 12 where it cannot hold a length or a
+-- pointer, and nothing else.
 use Prim.Native.Nat.{ℕ}
 use mathlib.Core.Path.{_≡_, refl, sym, _∙_, ap}
 use mathlib.Core.List.{List}

@@ -44,7 +44,8 @@ well-formed-unique m x y f g = accepted-same (sym (read-exactly m x .1 f) ∙ re
 pub params-one : (m : List ℕ) (x y : Message) (f : WellFormed m x) (g : WellFormed m y) → f .params ≡ g .params
 params-one m x y f g = family.params-one isup m (x .parts) (y .parts) (framed m x f) (framed m y g)
 
--- gaps and octets after the last part are ignored: a message that agrees on the circuit number's twelve bits, the type, the fixed part, the pointers and the parts reads the same
+-- gaps and octets after the last part are ignored: a message that agrees on the circuit number's
+-- twelve bits, the type, the fixed part, the pointers and the parts reads the same
 pub gaps-read-same : (m m′ : List ℕ) (x : Message) (f : WellFormed m x) → length m′ ≤ 268 → circuitOf m′ ≡ circuitOf m → Agrees (f .laid) m′ → readOf m′ ≡ readOf m
 unfolding readOf
 gaps-read-same m m′ x f l c g =

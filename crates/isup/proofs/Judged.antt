@@ -1,4 +1,5 @@
--- Refused exactly when: the number is the first fault in the paper's order, and acceptance is the absence of all.
+-- Refused exactly when: the number is the first fault in the paper's order,
+-- and acceptance is the absence of all.
 use Prim.Native.Nat.{ℕ}
 use mathlib.Core.List.{List, [], append-nil}
 use Rattle.octets.specs.Answer.{accepted}

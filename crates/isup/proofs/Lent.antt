@@ -27,7 +27,8 @@ module _ (circuit kind : ℕ) (fixed first second run buffer : List ℕ) (n : �
   unfolding writeOf
   write-front = family.front buffer (writeIn circuit kind fixed first second run) n left (λ ys q. write-reads-back-in circuit kind fixed first second run n ys q .0) e
 
-  -- the n octets that `write` left read; they are in the compact form and say what was given, octet for octet
+  -- the n octets that `write` left read; they are in the compact form and say
+  -- what was given, octet for octet
   pub write-reads-back : (x : Message) × (readOf (take n left) ≡ accepted x) × CompactForm (take n left) x × Says (take n left) x circuit kind fixed first second run
   write-reads-back = write-reads-back-in circuit kind fixed first second run n (take n left) (write-front .0) .1
 

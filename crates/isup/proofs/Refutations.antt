@@ -21,7 +21,8 @@ pub all-refused-refuted : (n at : ℕ) → readOf one ≡ refused n at → ⊥
 unfolding stepAt stops stopFrom runFrom variableAt optionalAt variableSlot optionalSlot sharesOf judged held containerOf partsOf shapeOf readOf
 all-refused-refuted n at e = refused-accepted (sym e)
 
--- a writer that lets a thirteenth bit of the circuit number into a spare bit accepts circuit 4096, which is refused with 9 whatever else is given
+-- a writer that lets a thirteenth bit of the circuit number into a spare bit accepts circuit 4096,
+-- which is refused with 9 whatever else is given
 pub spare-bit-refuted : (kind : ℕ) (fixed first second run buffer : List ℕ) → writeOf 4096 kind fixed first second run buffer ≡ leaving (refused 9 0) buffer
 unfolding writeIn writeOf
 spare-bit-refuted kind fixed first second run buffer = refl

@@ -1,4 +1,5 @@
--- REL and refusal 12: 253 octets of contents and a run put 255 into the last pointer, 254 with a run are too far, 254 with no run are fine. And 13 is decided before the first store.
+-- REL and refusal 12: 253 octets of contents and a run put 255 into the last pointer, 254 with a
+-- run are too far, 254 with no run are fine. And 13 is decided before the first store.
 use Prim.Native.Nat.{ℕ, _+_, _≤_, _<_}
 use mathlib.Core.Path.{_≡_, refl, sym, _∙_, ap}
 use mathlib.Core.Bool.{true, false}
@@ -90,7 +91,8 @@ module _ (circuit : ℕ) (low : circuit ≤ 4095) (c r : List ℕ) (qs : List Pa
       last (x ∷ xs) h w = within-head w
 
   module _ (buffer : List ℕ) where
-    -- 253 octets and a run: where 268 octets hold the message and the buffer has room for it, the last pointer is 255
+    -- 253 octets and a run: where 268 octets hold the message and the buffer has
+    -- room for it, the last pointer is 255
     pub rel-253 : length c ≡ 253 → 0 < length r → length r ≤ 8 → 260 + length r ≤ length buffer
         → (left : List ℕ) × (writeOf circuit REL [] c [] r buffer ≡ leaving (accepted (260 + length r)) left) × (octet left 4 ≡ 255)
     unfolding writeOf

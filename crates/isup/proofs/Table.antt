@@ -1,4 +1,5 @@
--- The table counted: exactly 24 octets are types, and these are they. The look-up table of 256 says the same.
+-- The table counted: exactly 24 octets are types, and these are they. The
+-- look-up table of 256 says the same.
 use Prim.Native.Nat.{ℕ, _≤_, _<_}
 use mathlib.Core.Path.{_≡_, refl}
 use mathlib.Core.Bool.{Bool, true, false}
@@ -109,6 +110,7 @@ three-exactly t = (
     go Unknown e h = inl e
     go (Has s) e h = absurd (h (types-exactly t .0 (s, e)))
 
--- the look-up table says what the rows of document 01 say, at each of the 256 octets; the proof of `shape_of` computes that it is the code's
+-- the look-up table says what the rows of document 01 say, at each of the 256 octets; the proof of
+-- `shape_of` computes that it is the code's
 pub table-says : (k : ℕ) → k < 256 → unpackedOf (octet (tableOf shapeOf) k) ≡ shapeOf k
 table-says = table-rows shapeOf (λ t s e. omega (arith, table-two t s e))

@@ -1,4 +1,5 @@
--- What is written reads back as it was given, in the compact form; refusals are the first fault in the paper's order.
+-- What is written reads back as it was given, in the compact form; refusals are
+-- the first fault in the paper's order.
 use Prim.Native.Nat.{ℕ, _+_, _*_, _/_, _%_, _≤_}
 use mathlib.Core.Path.{_≡_, refl, sym, _∙_, ap}
 use mathlib.Core.List.{List, []}
@@ -72,7 +73,8 @@ said ys p circuit kind fixed first second run low c e =
       },
     )
 
--- the octets that are written read; they are in the compact form and say what was given, octet for octet
+-- the octets that are written read; they are in the compact form and say
+-- what was given, octet for octet
 pub write-reads-back-in : (circuit kind : ℕ) (fixed first second run : List ℕ) (n : ℕ) (ys : List ℕ) → writeIn circuit kind fixed first second run ≡ accepted (n, ys)
     → (n ≡ length ys) × ((x : Message) × (readOf ys ≡ accepted x) × CompactForm ys x × Says ys x circuit kind fixed first second run)
 unfolding writeIn

@@ -8,7 +8,9 @@ use Rattle.writing.specs.Compact.{Compact}
 use Rattle.isup.specs.declared.Message.{Message}
 use Rattle.isup.specs.WellFormed.{WellFormed}
 
--- R12. spare bits of the circuit number 0, variable parameters in pointer order right after the pointers, optional part next, nothing between or after; optional pointer 0 if there are no optional parameters
+-- R12. spare bits of the circuit number 0, variable parameters in pointer order right
+-- after the pointers, optional part next, nothing between or after; optional pointer 0
+-- if there are no optional parameters
 pub record CompactForm (m : List ℕ) (x : Message) : Type 0 where
   pub formed : WellFormed m x
   pub spare : octet m 1 < 16
@@ -23,8 +25,10 @@ pub record Says (m : List ℕ) (x : Message) (c k : ℕ) (f a b r : List ℕ) : 
   pub second : partOf m (x .parts .second) ≡ b
   pub run : partOf m (x .parts .optional) ≡ r
 
--- the octets ys are a message in compact form that says what message m says, which reads as x: circuit, type, fixed octets, contents and optional run
+-- the octets ys are a message in compact form that says what message m says, which reads as x:
+-- circuit, type, fixed octets, contents and optional run
 abbrev pub SaysSame : List ℕ → Message → List ℕ → Type 0
 SaysSame m x ys =
     (y : Message) × CompactForm ys y
-    × Says ys y (x .circuit) (x .kind) (partOf m (x .parts .fixed)) (partOf m (x .parts .first)) (partOf m (x .parts .second)) (partOf m (x .parts .optional))
+    × Says ys y (x .circuit) (x .kind) (partOf m (x .parts .fixed)) (partOf m (x .parts .first))
+    (partOf m (x .parts .second)) (partOf m (x .parts .optional))

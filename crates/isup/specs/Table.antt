@@ -1,4 +1,5 @@
--- The table of types: octets of the fixed part, variable parameters, and whether there is an optional part.
+-- The table of types: octets of the fixed part, variable parameters, and
+-- whether there is an optional part.
 use Prim.Native.Nat.{ℕ}
 use mathlib.Core.Bool.{true, false}
 use mathlib.Core.List.{List, [], _∷_}

@@ -1,4 +1,5 @@
--- The faults of writing, in the paper's order: 9, 3, 10, 11, 12, 2, 13; and of reading and writing again: the reader's, 12, 13.
+-- The faults of writing, in the paper's order: 9, 3, 10, 11, 12, 2, 13; and of reading and writing
+-- again: the reader's, 12, 13.
 use Prim.Native.Nat.{ℕ, _<_}
 use mathlib.Core.List.{List, [], _∷_, _++_}
 use Rattle.octets.specs.Filled.{roomFault}

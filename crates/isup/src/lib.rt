@@ -1,4 +1,5 @@
-// ISUP: definitions and theorems alone, the limits and type octets for code, and what reading answers.
+// ISUP: definitions and theorems alone, the limits and type octets for code,
+// and what reading answers.
 use parts::Parts;
 
 // A message has so many octets at the most.
@@ -40,7 +41,8 @@ pub const CQM: u8 = 0x2A;
 
 pub const CQR: u8 = 0x2B;
 
-// A message that is well formed: its circuit, its type, and where its parts stand. ISUP has no third variable part.
+// A message that is well formed: its circuit, its type, and where its parts
+// stand. ISUP has no third variable part.
 pub struct Message {
     pub circuit: u16,
     pub kind: u8,

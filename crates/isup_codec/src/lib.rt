@@ -19,7 +19,8 @@ use shapes::SHAPES;
 
 mod shapes;
 
-// What the table says of a type octet: its shape row, or that it is not in the table. One answer for each of the 256, by one look-up.
+// What the table says of a type octet: its shape row, or that it is not in the table. One answer
+// for each of the 256, by one look-up.
 pub fn shape_of(kind: u8) -> Row
     ensures { λ r. ⌜ r ≡ shapeOf kind ⌝ }
 {
@@ -34,7 +35,8 @@ fn circuit_of(message: &[u8]) -> u16
     message[0] as u16 + 256 * (message[1] as u16 % 16)
 }
 
-// Reads a message: its circuit, its type and where its parts stand; or the refusal's number with the octet that it is about, 0 for 1 and 2.
+// Reads a message: its circuit, its type and where its parts stand; or the refusal's number with
+// the octet that it is about, 0 for 1 and 2.
 pub fn read(message: &[u8]) -> Reading
     ensures { λ r. ⌜ readingTold r ≡ readOf (now (message .entry)) ⌝ }
 {
@@ -49,7 +51,8 @@ pub fn read(message: &[u8]) -> Reading
     }
 }
 
-// Writes a message in its compact form: fills the front of `out` and keeps the rest, and answers how many octets were written.
+// Writes a message in its compact form: fills the front of `out` and keeps the rest, and answers
+// how many octets were written.
 // Refused with 9, 3, 10, 11, 12, 2, 13 in that order, and then `out` holds what it held.
 pub fn write(
     circuit: u32,
@@ -60,7 +63,9 @@ pub fn write(
     optional: &[u8],
     out: &mut [u8],
 ) -> Written
-    ensures { λ r. ⌜ leaving (writtenTold r) (now (out .exit)) ≡ writeOf circuit kind (now (fixed .entry)) (now (first .entry)) (now (second .entry)) (now (optional .entry)) (now (out .entry)) ⌝ }
+    ensures { λ r. ⌜ leaving (writtenTold r) (now (out .exit)) ≡
+        writeOf circuit kind (now (fixed .entry)) (now (first .entry)) (now (second .entry))
+        (now (optional .entry)) (now (out .entry)) ⌝ }
 {
     if LAST_CIRCUIT < circuit {
         return Written::Refused(9, 0);
@@ -89,10 +94,13 @@ pub fn write(
     }
 }
 
-// Reads a message and writes it again, in its compact form: fills the front of `out` and keeps the rest, and answers how many octets were written.
-// Refused with the reader's numbers and octets, then 12, then 13, and then `out` holds what it held.
+// Reads a message and writes it again, in its compact form: fills the front of `out` and keeps the
+// rest, and answers how many octets were written.
+// Refused with the reader's numbers and octets, then 12, then 13, and then
+// `out` holds what it held.
 pub fn compact(message: &[u8], out: &mut [u8]) -> Written
-    ensures { λ r. ⌜ leaving (writtenTold r) (now (out .exit)) ≡ compactOf (now (message .entry)) (now (out .entry)) ⌝ }
+    ensures { λ r. ⌜ leaving (writtenTold r) (now (out .exit)) ≡
+        compactOf (now (message .entry)) (now (out .entry)) ⌝ }
 {
     let kind = heads::kind_at(message, 2);
     let head = [heads::kind_at(message, 0), heads::kind_at(message, 1) % 16];

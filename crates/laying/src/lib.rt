@@ -83,7 +83,8 @@ fn put_ones(out: &mut [u8], at: usize, k: usize, n: usize)
 // A length octet, the circuit number and the type.
 fn put_head(out: &mut [u8], at: usize, size: u8, circuit: usize, kind: u8)
     requires { ⌜ (at + 4 ≤ length (now out)) × (circuit ≤ 4095) ⌝ }
-    ensures { λ r. ⌜ now (out .exit) ≡ sets (now (out .entry)) at (size ∷ circuit % 256 ∷ circuit / 256 ∷ kind ∷ []) ⌝ }
+    ensures { λ r. ⌜ now (out .exit) ≡
+        sets (now (out .entry)) at (size ∷ circuit % 256 ∷ circuit / 256 ∷ kind ∷ []) ⌝ }
 {
     out[at] = size;
     out[at + 1] = (circuit % 256) as u8;
@@ -94,7 +95,8 @@ fn put_head(out: &mut [u8], at: usize, size: u8, circuit: usize, kind: u8)
 // What comes after the type of a CGB: indicator, pointer, length and range.
 fn put_range(out: &mut [u8], at: usize, kind: u32, w: usize, range: usize)
     requires { ⌜ (at + 4 ≤ length (now out)) × (kind ≤ 1) × (w ≤ 32) × (range ≤ 255) ⌝ }
-    ensures { λ r. ⌜ now (out .exit) ≡ sets (now (out .entry)) at (kind ∷ 1 ∷ (1 + w) ∷ range ∷ []) ⌝ }
+    ensures { λ r. ⌜ now (out .exit) ≡
+        sets (now (out .entry)) at (kind ∷ 1 ∷ (1 + w) ∷ range ∷ []) ⌝ }
 {
     out[at] = kind as u8;
     out[at + 1] = 1;
@@ -104,7 +106,8 @@ fn put_range(out: &mut [u8], at: usize, kind: u32, w: usize, range: usize)
 
 // A CGB for a row of n ticked circuits.
 fn put_row(out: &mut [u8], at: usize, circuit: usize, kind: u32, n: usize) -> usize
-    requires { ⌜ (2 ≤ n) × (n ≤ 32) × (circuit ≤ 4095) × (kind ≤ 1) × (at + 8 + width (n - 1) ≤ length (now out)) ⌝ }
+    requires { ⌜ (2 ≤ n) × (n ≤ 32) × (circuit ≤ 4095) × (kind ≤ 1)
+        × (at + 8 + width (n - 1) ≤ length (now out)) ⌝ }
     ensures { λ r. ⌜ (now (out .exit) ≡ sets (now (out .entry)) at (frame (cgb circuit kind (n - 1) (ones (width (n - 1)) n)))) × (r ≡ at + 8 + width (n - 1)) ⌝ }
 {
     let range = n - 1;
@@ -138,7 +141,10 @@ fn put_step(
     out: &mut [u8],
     at: usize,
 ) -> usize
-    requires { ⌜ (length (now owners) ≡ 4096) × (length (now helpers) ≡ 4096) × (kind ≤ 1) × (1 ≤ n) × (n ≤ 32) × (circuit ≤ 4095) × (canPlan kind (mayBlock kind (now owners) (now helpers) sender) circuit ≡ true) × (at + 1 + length (stepFor kind (mayBlock kind (now owners) (now helpers) sender) circuit n .message) ≤ length (now out)) ⌝ }
+    requires { ⌜ (length (now owners) ≡ 4096) × (length (now helpers) ≡ 4096) × (kind ≤ 1) × (1 ≤ n)
+        × (n ≤ 32) × (circuit ≤ 4095)
+        × (canPlan kind (mayBlock kind (now owners) (now helpers) sender) circuit ≡ true)
+        × (at + 1 + length (stepFor kind (mayBlock kind (now owners) (now helpers) sender) circuit n .message) ≤ length (now out)) ⌝ }
     ensures { λ r. ⌜ (now (out .exit) ≡ sets (now (out .entry)) at (frame (stepFor kind (mayBlock kind (now (owners .entry)) (now (helpers .entry)) sender) circuit n .message))) × (r ≡ at + 1 + length (stepFor kind (mayBlock kind (now (owners .entry)) (now (helpers .entry)) sender) circuit n .message)) ⌝ }
 {
     if n != 1 {
@@ -173,8 +179,12 @@ fn lay(owners: &[u8], helpers: &[u8], ticks: &[u8], sender: u32, kind: u32, out:
     at
 }
 
-// A plan that the check accepts, at the front of `out`: how many octets it has. A row of ticked circuits, 32 at the most, is one CGB; a single one is BLO, or for hardware a CGB with a neighbour.
-// Refused in order: 16 for a table that is not 4096 octets, 14 for a kind other than 0 or 1, 20 for any row that is not legal, 25 if there is no plan, 13 for under 9 octets of `out` for each ticked circuit; a refusal changes no octet.
+// A plan that the check accepts, at the front of `out`: how many octets it has. A
+// row of ticked circuits, 32 at the most, is one CGB; a single one is BLO, or for
+// hardware a CGB with a neighbour.
+// Refused in order: 16 for a table that is not 4096 octets, 14 for a kind other than 0 or 1, 20 for
+// any row that is not legal, 25 if there is no plan, 13 for under 9 octets of `out` for each ticked
+// circuit; a refusal changes no octet.
 pub fn plan(
     states: &[u8],
     owners: &[u8],
@@ -185,7 +195,8 @@ pub fn plan(
     out: &mut [u8],
 ) -> Written
     ensures { λ r. ⌜ leaving (writtenTold r) (now (out .exit)) ≡
-        plannedOf (tables (now (states .entry)) (now (owners .entry)) (now (helpers .entry))) (now (ticks .entry)) sender kind (now (out .entry)) ⌝ }
+        plannedOf (tables (now (states .entry)) (now (owners .entry)) (now (helpers .entry)))
+        (now (ticks .entry)) sender kind (now (out .entry)) ⌝ }
 {
     if states.len() != CIRCUITS {
         return Written::Refused(16, 0);

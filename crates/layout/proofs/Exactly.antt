@@ -1,4 +1,5 @@
--- Accepted exactly when well formed: the reader gives these parts if and only if the message is laid out so.
+-- Accepted exactly when well formed: the reader gives these parts if and only
+-- if the message is laid out so.
 use Prim.Native.Nat.{ℕ, zero, suc, _+_, _-_, _≤_, _<_}
 use mathlib.Core.Path.{_≡_, refl, sym, _∙_, ap, subst}
 use mathlib.Core.Bool.{Bool, true, false}
@@ -281,7 +282,8 @@ no-zero-pointer m w shape p qs k v l z =
     cases (suc (suc zero)) h = inr (inr refl)
     cases (suc (suc (suc k))) h = absurd (omega arith)
 
--- the optional run that the parts name holds the parameters, up to the 0 that closes it; an empty run holds none
+-- the optional run that the parts name holds the parameters, up to the 0 that
+-- closes it; an empty run holds none
 pub run-params : (m : List ℕ) (w : ℕ) (shape : Shape) (p : Parts) (qs : List Param) → LaidOut m w shape p qs
     → ((p .optional .from < p .optional .to) × Params m (p .optional .from) qs (p .optional .to) × Closes m (p .optional .to)) ⊎ ((p .optional .to ≤ p .optional .from) × (qs ≡ []))
 unfolding held

@@ -1,4 +1,5 @@
--- Gaps and octets after the last part are ignored: a message that agrees on what is looked at is laid out the same.
+-- Gaps and octets after the last part are ignored: a message that agrees on
+-- what is looked at is laid out the same.
 use Prim.Native.Nat.{ℕ, _+_, _-_, _<_}
 use mathlib.Core.Path.{_≡_, refl, sym, _∙_}
 use mathlib.Core.Bool.{Bool, true, false}

@@ -1,4 +1,5 @@
--- The container does not look at the header: two messages of one length that agree from the type octet on have the same answer, refusals and their octets included.
+-- The container does not look at the header: two messages of one length that agree from the type
+-- octet on have the same answer, refusals and their octets included.
 use Prim.Native.Nat.{ℕ, _+_, _-_, _≤_, _<_}
 use mathlib.Core.Path.{_≡_, refl, _∙_, ap}
 use mathlib.Core.Bool.{Bool}

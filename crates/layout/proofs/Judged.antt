@@ -1,4 +1,5 @@
--- Refused exactly when: the number given back is the first fault in the paper's order, with its octet, and acceptance is the absence of all.
+-- Refused exactly when: the number given back is the first fault in the paper's order, with its
+-- octet, and acceptance is the absence of all.
 use Prim.Native.Nat.{ℕ, _+_, _-_, _≤_, _<_}
 use mathlib.Core.Path.{_≡_, refl, sym, _∙_, subst}
 use mathlib.Core.Bool.{true}

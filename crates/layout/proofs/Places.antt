@@ -1,4 +1,5 @@
--- The octet that a refusal is about: document 02's rule, number by number, and that it never lies beyond the message's length.
+-- The octet that a refusal is about: document 02's rule, number by number, and that it never lies
+-- beyond the message's length.
 use Prim.Native.Nat.{ℕ, _+_, _-_, _*_, _≤_, _<_}
 use mathlib.Core.Path.{_≡_, refl, ap}
 use mathlib.Core.Bool.{Bool, true, false}

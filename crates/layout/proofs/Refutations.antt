@@ -10,7 +10,8 @@ use Rattle.layout.specs.Container.{runFrom, variableAt, optionalAt, vari
 use Rattle.parts.specs.Overlap.{sharesOf, judged, held}
 use Rattle.layout.specs.Packed.{packedOf, unpackedOf}
 
--- a row of four variable parts: a reader that looks at three pointers takes this message, whose fourth pointer is 0
+-- a row of four variable parts: a reader that looks at three pointers takes
+-- this message, whose fourth pointer is 0
 abbrev pub four : Shape
 four = record { fixed = 0; vars = 4; opt = false }
 
@@ -23,7 +24,8 @@ pub four-lost : unpackedOf (packedOf (Has four)) ≡ Has (record { fixed = 1; va
 unfolding unpackedOf
 four-lost = refl
 
--- two variable parts and an optional part: the second and the optional one share octet 6, and a check that misses this pair takes the message
+-- two variable parts and an optional part: the second and the optional one share octet 6, and a
+-- check that misses this pair takes the message
 abbrev pub two : Shape
 two = record { fixed = 0; vars = 2; opt = true }
 
@@ -31,7 +33,8 @@ pub pair-refused : partsOf (1 ∷ 3 ∷ 3 ∷ 3 ∷ 0 ∷ 1 ∷ 0 ∷ []) 0 268 
 unfolding stepAt stops stopFrom runFrom variableAt optionalAt variableSlot optionalSlot sharesOf judged held containerOf partsOf
 pair-refused = refl
 
--- three variable parts: the third shares an octet with the first and with the second, and 8 is about the first of these pairs, though the other's octet comes earlier
+-- three variable parts: the third shares an octet with the first and with the second, and 8 is
+-- about the first of these pairs, though the other's octet comes earlier
 abbrev pub three : Shape
 three = record { fixed = 0; vars = 3; opt = false }
 

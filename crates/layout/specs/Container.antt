@@ -1,5 +1,7 @@
--- The container of a message, from its type octet on: where each part stands, or which number is given back, with the octet that it is about.
--- The order is the paper's: 1, 2, 3, 4; each variable pointer in turn 5 then 6; the optional pointer 5 then 7; then 8.
+-- The container of a message, from its type octet on: where each part stands, or which number is
+-- given back, with the octet that it is about.
+-- The order is the paper's: 1, 2, 3, 4; each variable pointer in turn 5 then 6; the optional
+-- pointer 5 then 7; then 8.
 use Prim.Native.Nat.{ℕ, _+_, _-_}
 use mathlib.Core.Bool.{Bool, true, false}
 use mathlib.Core.List.{List}
@@ -27,7 +29,8 @@ nothing = span 0 0
 abbrev pub target : List ℕ → ℕ → ℕ
 target m p = p + octet m p
 
--- no target may lie before e, where the pointers end, or at the message's length or beyond: 5, about the pointer
+-- no target may lie before e, where the pointers end, or at the message's
+-- length or beyond: 5, about the pointer
 abbrev pub pointed : List ℕ → ℕ → ℕ → Answer ℕ
 pointed m p e =
     if ltb (target m p) e then refused 5 p
@@ -38,7 +41,8 @@ pointed m p e =
 abbrev pub past : List ℕ → ℕ → ℕ
 past m t = t + 1 + octet m t
 
--- the variable parameter that starts at t. 6 where its contents pass the message's length, about the length octet
+-- the variable parameter that starts at t. 6 where its contents pass the
+-- message's length, about the length octet
 abbrev pub variableFrom : List ℕ → ℕ → Answer Span
 variableFrom m t = if ltb (length m) (past m t) then refused 6 t else accepted (span t (past m t))
 
@@ -46,7 +50,8 @@ variableFrom m t = if ltb (length m) (past m t) then refused 6 t else accepted (
 unfoldable pub variableAt : List ℕ → ℕ → ℕ → Answer Span
 variableAt m p e = pointed m p e then variableFrom m
 
--- the run of a message goes through the 0 that closes it. 7 where it passes the end or is not closed, about the name octet of the parameter that passes, or the octet where a name was due
+-- the run of a message goes through the 0 that closes it. 7 where it passes the end or is not
+-- closed, about the name octet of the parameter that passes, or the octet where a name was due
 abbrev pub closed : ℕ → Stop → Answer Span
 closed from (Closed i) = accepted (span from (i + 1))
 closed from (Ended i) = refused 7 i
@@ -69,7 +74,8 @@ bit false = 0
 abbrev pub startOf : ℕ → Shape → ℕ
 startOf w s = w + 1 + s .fixed
 
--- where the pointers end: one for each variable parameter, then, if there is an optional part, one to it
+-- where the pointers end: one for each variable parameter, then, if there is
+-- an optional part, one to it
 abbrev pub endOf : ℕ → Shape → ℕ
 endOf w s = startOf w s + s .vars + bit (s .opt)
 
@@ -81,7 +87,8 @@ variableSlot m at k n e = if ltb k n then variableAt m (at + k) e else accepted 
 unfoldable pub optionalSlot : List ℕ → Bool → ℕ → Answer Span
 optionalSlot m o e = if o then optionalAt m (e - 1) e else accepted nothing
 
--- a message of that shape, its type octet at w. 4 where the fixed part or the pointers are cut off, about the message's end
+-- a message of that shape, its type octet at w. 4 where the fixed part or the
+-- pointers are cut off, about the message's end
 unfoldable pub containerOf : List ℕ → ℕ → Shape → Answer Parts
 containerOf m w s =
     if ltb (length m) (endOf w s) then refused 4 (length m)
@@ -104,7 +111,8 @@ abbrev pub ofRow : List ℕ → ℕ → Row → Answer Parts
 ofRow m w (Has s) = shapedOf m w s
 ofRow m w Unknown = refused 3 w
 
--- a whole message of a family: 1 where it ends before the type octet, 2 where it is longer than the longest
+-- a whole message of a family: 1 where it ends before the type octet, 2 where
+-- it is longer than the longest
 unfoldable pub partsOf : List ℕ → ℕ → ℕ → Row → Answer Parts
 partsOf m w most r =
     if leb (length m) w then refused 1 0

@@ -1,4 +1,5 @@
--- The faults of a message, each in the paper's words, in the paper's order: 1, 2, 3, 4; each variable pointer in turn 5 then 6; the optional pointer 5 then 7; then 8.
+-- The faults of a message, each in the paper's words, in the paper's order: 1, 2, 3, 4; each
+-- variable pointer in turn 5 then 6; the optional pointer 5 then 7; then 8.
 use Prim.Native.Nat.{ℕ, _+_, _-_, _≤_, _<_}
 use mathlib.Core.Path.{_≡_}
 use mathlib.Core.Bool.{true}
@@ -16,17 +17,21 @@ use Rattle.layout.specs.Container.{target, past, startOf, endOf}
 use Rattle.runs.specs.Params.{Param, Params, Passes}
 use Rattle.layout.specs.Laid.{VariableSlot, OptionalSlot, Share}
 
--- the pointer at p breaks the rule: its target lies before the end of the pointers, or at L or beyond
+-- the pointer at p breaks the rule: its target lies before the end of the
+-- pointers, or at L or beyond
 abbrev pub Breaks : List ℕ → ℕ → ℕ → Type 0
 Breaks m e p = (target m p < e) ⊎ (length m ≤ target m p)
 
--- the optional part that starts at t passes L or is not closed: its whole parameters come to octet i, which is L, where a name was due, or the name octet of a parameter that passes L
+-- the optional part that starts at t passes L or is not closed: its whole parameters come to octet
+-- i, which is L, where a name was due, or the name octet of a parameter that passes L
 abbrev pub NotClosed : List ℕ → ℕ → ℕ → Type 0
 NotClosed m t i = (qs : List Param) × Params m t qs i × ((i ≡ length m) ⊎ Passes m i)
 
--- 8 for two parts, each told by what its span is: they share an octet, and `at` is the larger of their starts
+-- 8 for two parts, each told by what its span is: they share an octet, and
+-- `at` is the larger of their starts
 abbrev pub sharing : (Span → Type 0) → (Span → Type 0) → Fault
-sharing A B = record { number = 8; there = λ at. (a b : Span) × A a × B b × Share a b × LargerStart a b at }
+sharing A B =
+    record { number = 8; there = λ at. (a b : Span) × A a × B b × Share a b × LargerStart a b at }
 
 module _ (m : List ℕ) (w : ℕ) (s : Shape) where
   -- 5 then 6 for the k-th variable pointer
@@ -71,7 +76,8 @@ module _ (m : List ℕ) (w : ℕ) (s : Shape) where
   abbrev pub containerFaults : List Fault
   containerFaults =
       fault 4 (length m) (length m < endOf w s)
-      ∷ (variableFaults 0 ++ (variableFaults 1 ++ (variableFaults 2 ++ (optionalFaults ++ sharingFaults))))
+      ∷ (variableFaults 0
+      ++ (variableFaults 1 ++ (variableFaults 2 ++ (optionalFaults ++ sharingFaults))))
 
 -- 3: the type is not in the table, or its row has more than three variable parameters
 abbrev pub NoRow : Row → Type 0
@@ -82,7 +88,8 @@ abbrev pub rowFaults : List ℕ → ℕ → Row → List Fault
 rowFaults m w (Has s) = containerFaults m w s
 rowFaults m w Unknown = []
 
--- R15. a message of a family: 1 where L is under the header and the type octet, 2 where it is over the longest, 3 for a type that is not in the table or has no row that can be read
+-- R15. a message of a family: 1 where L is under the header and the type octet, 2 where it is over
+-- the longest, 3 for a type that is not in the table or has no row that can be read
 abbrev pub messageFaults : List ℕ → ℕ → ℕ → Row → List Fault
 messageFaults m w most r =
     fault 1 0 (length m ≤ w)

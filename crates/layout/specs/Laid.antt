@@ -1,4 +1,5 @@
--- Where the parts of a message lie, as the standard says it: no order of reading, no refusals, no algorithm.
+-- Where the parts of a message lie, as the standard says it: no order of
+-- reading, no refusals, no algorithm.
 use Prim.Native.Nat.{ℕ, _+_, _-_, _≤_, _<_}
 use mathlib.Core.Path.{_≡_}
 use mathlib.Core.Bool.{Bool, true, false}
@@ -16,25 +17,29 @@ use Rattle.parts.specs.Spans.{span}
 use Rattle.layout.specs.Container.{nothing, startOf, endOf}
 use Rattle.parts.specs.Overlap.{held}
 
--- R8. the pointer at octet p points at t: counted from the pointer itself, not before e, where the pointers end, and within the message
+-- R8. the pointer at octet p points at t: counted from the pointer itself, not before e, where the
+-- pointers end, and within the message
 pub record Points (m : List ℕ) (e p t : ℕ) : Type 0 where
   pub counted : t ≡ p + octet m p
   pub behind : e ≤ t
   pub within : t < length m
 
--- R9. the span is the variable parameter whose pointer stands at p: a length octet, then that many octets, all within the message
+-- R9. the span is the variable parameter whose pointer stands at p: a length octet, then that many
+-- octets, all within the message
 pub record Variable (m : List ℕ) (e p : ℕ) (s : Span) : Type 0 where
   pub pointed : Points m e p (s .from)
   pub ends : s .to ≡ s .from + 1 + octet m (s .from)
   pub inside : s .to ≤ length m
 
--- R8, R10. the optional part whose pointer stands at p, with its parameters: a pointer of 0 says that nothing is there
+-- R8, R10. the optional part whose pointer stands at p, with its parameters: a
+-- pointer of 0 says that nothing is there
 abbrev pub Optional : List ℕ → ℕ → ℕ → List Param → Span → Type 0
 Optional m e p qs s =
     ((octet m p ≡ 0) × (qs ≡ []) × (s ≡ nothing))
     ⊎ ((octet m p ≡ 0 → ⊥) × Points m e p (s .from) × Run m (s .from) qs (s .to))
 
--- the k-th of n variable parameters, the first pointer at `at`; nothing where there are not that many
+-- the k-th of n variable parameters, the first pointer at `at`; nothing
+-- where there are not that many
 abbrev pub VariableSlot : List ℕ → ℕ → ℕ → ℕ → ℕ → Span → Type 0
 VariableSlot m e at k n s = ((k < n) × Variable m e (at + k) s) ⊎ ((n ≤ k) × (s ≡ nothing))
 
@@ -61,9 +66,11 @@ abbrev pub AllApart : List Span → Type 0
 AllApart [] = Unit {0}
 AllApart (a ∷ bs) = ApartFrom a bs × AllApart bs
 
--- R7. the message has that shape, with its type octet at w; these are its parts, and qs its optional parameters
+-- R7. the message has that shape, with its type octet at w; these are its
+-- parts, and qs its optional parameters
 pub record LaidOut (m : List ℕ) (w : ℕ) (shape : Shape) (p : Parts) (qs : List Param) : Type 0 where
-  -- the octets that each part takes: variable parameters with their length octets, the optional part through its closing 0
+  -- the octets that each part takes: variable parameters with their length octets, the optional
+  -- part through its closing 0
   pub a : Span
   pub b : Span
   pub c : Span
@@ -79,7 +86,8 @@ pub record LaidOut (m : List ℕ) (w : ℕ) (shape : Shape) (p : Parts) (qs : Li
   -- what the parts hold
   pub holds : p ≡ held (span (w + 1) (startOf w shape)) a b c d
 
--- a whole message of a family: it has a type octet, is not too long, and its type's row says its shape
+-- a whole message of a family: it has a type octet, is not too long, and
+-- its type's row says its shape
 pub record Framed (m : List ℕ) (w top : ℕ) (row : Row) (p : Parts) : Type 0 where
   pub shape : Shape
   pub params : List Param

@@ -6,7 +6,8 @@ use Rattle.layout.specs.declared.Row.{Row}
 use Rattle.layout.specs.declared.Row.the-variants.{Has, Unknown}
 use Rattle.layout.specs.Container.{bit}
 
--- a row packed: 16 for each fixed octet, 4 for each variable parameter, 2 for an optional part, and 1; 0 for a type that is not in the table
+-- a row packed: 16 for each fixed octet, 4 for each variable parameter, 2 for an optional part, and
+-- 1; 0 for a type that is not in the table
 abbrev pub packedOf : Row → ℕ
 packedOf Unknown = 0
 packedOf (Has s) = 16 * s .fixed + 4 * s .vars + 2 * bit (s .opt) + 1

@@ -1,7 +1,9 @@
-// The layout of a message by its shape row: definitions, theorems and types. Octets are numbered from 0.
+// The layout of a message by its shape row: definitions, theorems and types.
+// Octets are numbered from 0.
 use parts::Span;
 
-// A shape row: octets of the fixed part, variable parameters (0 to 3), and whether there is an optional part.
+// A shape row: octets of the fixed part, variable parameters (0 to 3), and
+// whether there is an optional part.
 pub struct Shape {
     pub fixed: u8,
     pub vars: u8,

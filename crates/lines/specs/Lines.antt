@@ -1,4 +1,5 @@
--- What the lines of the desk's answers have in common: a word with a number or with octets, a refusal, what was written to a lent buffer.
+-- What the lines of the desk's answers have in common: a word with a number or with octets, a
+-- refusal, what was written to a lent buffer.
 use Prim.Native.Nat.{ℕ}
 use Prim.Native.String.{String}
 use mathlib.Core.List.{List, _++_}
@@ -23,7 +24,8 @@ shown word xs = said word ++ hexOf xs
 abbrev pub refusal : ℕ → List ℕ
 refusal n = counted "refused " n
 
--- refused 5 at 3, with the octet that a reader's number from 3 to 8 is about; every other number stays refused N
+-- refused 5 at 3, with the octet that a reader's number from 3 to 8 is about;
+-- every other number stays refused N
 unfoldable pub faultLine : ℕ → ℕ → List ℕ
 faultLine n at =
     if ltb n 3 then refusal n

@@ -1,4 +1,5 @@
--- The line of a well-formed message shows exactly its declared parameters, in order; of a message that the reader refuses, the refusal with its octet.
+-- The line of a well-formed message shows exactly its declared parameters, in order; of a message
+-- that the reader refuses, the refusal with its octet.
 use Prim.Native.Nat.{ℕ, zero, suc, _+_, _*_, _≤_, _<_}
 use mathlib.Core.Path.{_≡_, refl, ap, subst}
 use mathlib.Core.List.{List, [], _∷_, _++_}
@@ -76,7 +77,8 @@ module _ (m : List ℕ) (i z : ℕ) (l : i < z) (c : Closes m z) where
       rw (s, t) refl
 
 module _ (F : Family) (m : List ℕ) where
-  -- the line of a well-formed message of any family: its declared parameters, name and contents, in order
+  -- the line of a well-formed message of any family: its declared parameters,
+  -- name and contents, in order
   pub list-exactly : (p : Parts) (f : FamilyFormed F m p) → listIn F m ≡ paramsLine (f .params)
   unfolding listIn startIn
   list-exactly p f =
@@ -86,7 +88,8 @@ module _ (F : Family) (m : List ℕ) where
       (λ r. simp (le-ltb _ _ (r .0)) (rw (r .1, past-done m (length m) (omega arith)) refl))
       (run-params m (F .width) (f .shape) p (f .params) (f .laid)))
 
-  -- of a message that the reader refuses: the refusal, with its octet where the number is from 3 to 8
+  -- of a message that the reader refuses: the refusal, with its octet where
+  -- the number is from 3 to 8
   pub list-refused : (n at : ℕ) → readIn F m ≡ refused n at → listIn F m ≡ faultLine n at
   unfolding listIn
   list-refused n at e = rw e refl

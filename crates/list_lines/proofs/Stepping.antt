@@ -24,7 +24,8 @@ use Rattle.printing.proofs.Pours.{pour-append}
 use Rattle.list_lines.specs.Lists.{offerText, stepsText, listBy, listIn}
 use Rattle.list_lines.specs.Inside.{begunLine}
 
--- a parameter that a step gives at octet i: the next place is past it, and it ends inside the message
+-- a parameter that a step gives at octet i: the next place is past it, and
+-- it ends inside the message
 pub record Given (m : List ℕ) (i : ℕ) (f : Field) : Type 0 where
   pub past : placeAfter m i ≡ f .at + f .len
   pub starts : f .at ≡ i + 2

@@ -1,4 +1,5 @@
--- What stands between the lines and the code: the line by the start's refusal and the start's place.
+-- What stands between the lines and the code: the line by the start's
+-- refusal and the start's place.
 use Prim.Native.Nat.{ℕ}
 use mathlib.Core.List.{List}
 use lib.Dec.{eqb}

@@ -1,4 +1,5 @@
--- The lines of list, bicc-list and sccp-list: the optional parameters of a message, as a cursor's steps give them.
+-- The lines of list, bicc-list and sccp-list: the optional parameters of a
+-- message, as a cursor's steps give them.
 use Prim.Native.Nat.{ℕ}
 use mathlib.Core.List.{List, [], _∷_, _++_}
 use lib.Dec.{eqb}
@@ -31,7 +32,8 @@ unfoldable pub stepsText : List ℕ → List Offer → List ℕ
 stepsText m [] = []
 stepsText m (g ∷ gs) = offerText m g ++ stepsText m gs
 
--- parameters 20 41 21 -, of the steps from octet i on; parameters - where the first says done. A message has fewer parameters than octets, which bounds the steps
+-- parameters 20 41 21 -, of the steps from octet i on; parameters - where the first says done. A
+-- message has fewer parameters than octets, which bounds the steps
 abbrev pub listFrom : List ℕ → ℕ → Offer → List ℕ
 listFrom m i (One f) = said "parameters" ++ stepsText m (stepsFrom (length m) m i)
 listFrom m i Done = said "parameters -"

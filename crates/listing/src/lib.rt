@@ -1,4 +1,5 @@
-// What the desk answers to list, bicc-list and sccp-list: the optional parameters of a message, by the cursor's steps.
+// What the desk answers to list, bicc-list and sccp-list: the optional
+// parameters of a message, by the cursor's steps.
 ghost use mathlib.Core.Path.{_≡_};
 ghost use lib.ListN.{length};
 ghost use Rattle.family.specs.Steps.{offerAt, stepsFrom};
@@ -18,15 +19,18 @@ use runs::Field;
 
 // Puts name and contents of a parameter from `at` on, and answers the next place.
 fn put_param(message: &[u8], f: Field, out: &mut [u8], at: usize) -> usize
-    ensures { λ r. ⌜ sheet (now (out .exit)) r ≡ pour (sheet (now (out .entry)) at) (offerText (now (message .entry)) (Offer.Param f)) ⌝ }
+    ensures { λ r. ⌜ sheet (now (out .exit)) r ≡
+        pour (sheet (now (out .entry)) at) (offerText (now (message .entry)) (Offer.Param f)) ⌝ }
 {
     let name = sayings::put_shown(b" ", &[f.name], out, at);
     sayings::put_shown(b" ", pieces::stretch(message, f.at, f.len), out, name)
 }
 
-// Puts the parameters that the cursor's steps give from octet `start` on, until a step says done, and answers the next place.
+// Puts the parameters that the cursor's steps give from octet `start` on, until a step says done,
+// and answers the next place.
 fn put_steps(message: &[u8], start: usize, out: &mut [u8], at: usize) -> usize
-    ensures { λ r. ⌜ sheet (now (out .exit)) r ≡ pour (sheet (now (out .entry)) at) (stepsText (now (message .entry)) (stepsFrom (length (now (message .entry))) (now (message .entry)) start)) ⌝ }
+    ensures { λ r. ⌜ sheet (now (out .exit)) r ≡
+        pour (sheet (now (out .entry)) at) (stepsText (now (message .entry)) (stepsFrom (length (now (message .entry))) (now (message .entry)) start)) ⌝ }
 {
     let mut place = start;
     let mut next = at;
@@ -43,7 +47,9 @@ fn put_steps(message: &[u8], start: usize, out: &mut [u8], at: usize) -> usize
 
 // Says the parameters from octet `start` on, or that there are none.
 fn say_steps(message: &[u8], start: usize, out: &mut [u8]) -> usize
-    ensures { λ r. ⌜ sheet (now (out .exit)) r ≡ pour (sheet (now (out .entry)) 0) (listFrom (now (message .entry)) start (offerAt (now (message .entry)) start)) ⌝ }
+    ensures { λ r. ⌜ sheet (now (out .exit)) r ≡
+        pour (sheet (now (out .entry)) 0)
+        (listFrom (now (message .entry)) start (offerAt (now (message .entry)) start)) ⌝ }
 {
     match steps::step_of(message, start) {
         Offer::Done => printing::put_text(b"parameters -", out, 0),
@@ -56,7 +62,8 @@ fn say_steps(message: &[u8], start: usize, out: &mut [u8]) -> usize
 
 // Says what the start gives: the refusal with its octet, or the parameters.
 fn say_list(message: &[u8], refusal: Refusal, start: usize, out: &mut [u8]) -> usize
-    ensures { λ r. ⌜ sheet (now (out .exit)) r ≡ pour (sheet (now (out .entry)) 0) (begunLine (now (message .entry)) refusal start) ⌝ }
+    ensures { λ r. ⌜ sheet (now (out .exit)) r ≡
+        pour (sheet (now (out .entry)) 0) (begunLine (now (message .entry)) refusal start) ⌝ }
 {
     if refusal.number == 0 {
         return say_steps(message, start, out);
@@ -66,7 +73,8 @@ fn say_list(message: &[u8], refusal: Refusal, start: usize, out: &mut [u8]) -> u
 
 // Lists an ISUP message.
 fn say_isup(message: &[u8], out: &mut [u8]) -> usize
-    ensures { λ r. ⌜ sheet (now (out .exit)) r ≡ pour (sheet (now (out .entry)) 0) (listIn isup (now (message .entry))) ⌝ }
+    ensures { λ r. ⌜ sheet (now (out .exit)) r ≡
+        pour (sheet (now (out .entry)) 0) (listIn isup (now (message .entry))) ⌝ }
 {
     say_list(
         message,
@@ -78,7 +86,8 @@ fn say_isup(message: &[u8], out: &mut [u8]) -> usize
 
 // Lists a BICC message.
 fn say_bicc(message: &[u8], out: &mut [u8]) -> usize
-    ensures { λ r. ⌜ sheet (now (out .exit)) r ≡ pour (sheet (now (out .entry)) 0) (listIn bicc (now (message .entry))) ⌝ }
+    ensures { λ r. ⌜ sheet (now (out .exit)) r ≡
+        pour (sheet (now (out .entry)) 0) (listIn bicc (now (message .entry))) ⌝ }
 {
     say_list(
         message,
@@ -90,7 +99,8 @@ fn say_bicc(message: &[u8], out: &mut [u8]) -> usize
 
 // Lists an SCCP message.
 fn say_sccp(message: &[u8], out: &mut [u8]) -> usize
-    ensures { λ r. ⌜ sheet (now (out .exit)) r ≡ pour (sheet (now (out .entry)) 0) (listIn sccp (now (message .entry))) ⌝ }
+    ensures { λ r. ⌜ sheet (now (out .exit)) r ≡
+        pour (sheet (now (out .entry)) 0) (listIn sccp (now (message .entry))) ⌝ }
 {
     say_list(
         message,
@@ -100,9 +110,12 @@ fn say_sccp(message: &[u8], out: &mut [u8]) -> usize
     )
 }
 
-// Puts the answer's line to one of the three requests at the front of `out`, and answers the next place. What `out` has no room for is left out.
+// Puts the answer's line to one of the three requests at the front of `out`, and answers the next
+// place. What `out` has no room for is left out.
 pub fn list_line(request: Request, octets: &[u8], out: &mut [u8]) -> usize
-    ensures { λ r. ⌜ sheet (now (out .exit)) r ≡ pour (sheet (now (out .entry)) 0) (listLine (request .which) (saidIn (now (octets .entry)) (request .fields))) ⌝ }
+    ensures { λ r. ⌜ sheet (now (out .exit)) r ≡
+        pour (sheet (now (out .entry)) 0)
+        (listLine (request .which) (saidIn (now (octets .entry)) (request .fields))) ⌝ }
 {
     let fields = request.fields;
     let field = fields[0];

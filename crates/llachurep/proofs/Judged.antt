@@ -1,4 +1,5 @@
--- Refused exactly when, at the boundary: the number is the first fault in the paper's order, 13 last, and acceptance is the absence of all.
+-- Refused exactly when, at the boundary: the number is the first fault in the paper's order, 13
+-- last, and acceptance is the absence of all.
 use Prim.Native.Nat.{ℕ}
 use mathlib.Core.List.{List, [], _∷_}
 use native.Mathlib.Omega.{arith}

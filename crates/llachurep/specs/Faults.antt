@@ -12,4 +12,5 @@ readGivesFaults m parts = readerFaults m ++ (fault 13 0 (length parts < 10) ∷ 
 
 -- the finding's, then 13 where there is no room for a start and a length
 abbrev pub findGivesFaults : List ℕ → List ℕ → ℕ → List ℕ → List Fault
-findGivesFaults m defaults name stretch = findFaults m defaults name ++ (fault 13 0 (length stretch < 2) ∷ [])
+findGivesFaults m defaults name stretch =
+    findFaults m defaults name ++ (fault 13 0 (length stretch < 2) ∷ [])

@@ -1,4 +1,9 @@
-// The boundary: the proved functions for C and Rust. Here are those on ISUP messages; those that serve all families of messages are in `families`, BICC's in `calls`, SCCP's in `roaming`, called party numbers in `numbers`, the tables of circuits in `circuits`, `occupancy` and `nights`, velocities in `speeds`. Answers are one number, 65536 * N + v: N is the refusal's number, 0 where there is none; v is then the octet that it is about, 0 where it is about none. A refusal changes nothing that was lent.
+// The boundary: the proved functions for C and Rust. Here are those on ISUP messages; those
+// that serve all families of messages are in `families`, BICC's in `calls`, SCCP's in
+// `roaming`, called party numbers in `numbers`, the tables of circuits in `circuits`,
+// `occupancy` and `nights`, velocities in `speeds`. Answers are one number, 65536 * N + v: N
+// is the refusal's number, 0 where there is none; v is then the octet that it is about, 0
+// where it is about none. A refusal changes nothing that was lent.
 ghost use mathlib.Core.Path.{_≡_};
 ghost use Prim.Native.Nat.{_≤_};
 ghost use lib.ListN.{length};
@@ -53,10 +58,13 @@ fn put_values(x: Message, parts: &mut [u16])
     parts[9] = size_of(optional);
 }
 
-// Reads a message. Accepted: 10, and parts[0..10) are circuit, type, then start and length of the fixed part, of the first and of the second contents, and of the optional run, each 0, 0 where there is none. Refused with the reader's numbers and octets, then 13.
+// Reads a message. Accepted: 10, and parts[0..10) are circuit, type, then start and length of the
+// fixed part, of the first and of the second contents, and of the optional run, each 0, 0 where
+// there is none. Refused with the reader's numbers and octets, then 13.
 #[no_mangle]
 pub extern "C" fn llachurep_read(message: &[u8], parts: &mut [u16]) -> u32
-    ensures { λ r. ⌜ given r (now (parts .exit)) ≡ givenBy (readGives (now (message .entry)) (now (parts .entry))) ⌝ }
+    ensures { λ r. ⌜ given r (now (parts .exit)) ≡
+        givenBy (readGives (now (message .entry)) (now (parts .entry))) ⌝ }
 {
     match isup_codec::read(message) {
         Reading::Refused(n, at) => telling::refusal(n, at),
@@ -70,7 +78,8 @@ pub extern "C" fn llachurep_read(message: &[u8], parts: &mut [u16]) -> u32
     }
 }
 
-// Writes a message in its compact form to the front of `out`. Accepted: how many octets were written. Refused with 9, 3, 10, 11, 12, 2, 13.
+// Writes a message in its compact form to the front of `out`. Accepted: how many octets were
+// written. Refused with 9, 3, 10, 11, 12, 2, 13.
 #[no_mangle]
 pub extern "C" fn llachurep_write(
     circuit: u32,
@@ -81,14 +90,16 @@ pub extern "C" fn llachurep_write(
     optional: &[u8],
     out: &mut [u8],
 ) -> u32
-    ensures { λ r. ⌜ given r (now (out .exit)) ≡ givenBy (writeOf circuit kind (now (fixed .entry)) (now (first .entry)) (now (second .entry)) (now (optional .entry)) (now (out .entry))) ⌝ }
+    ensures { λ r. ⌜ given r (now (out .exit)) ≡
+        givenBy (writeOf circuit kind (now (fixed .entry)) (now (first .entry)) (now (second .entry)) (now (optional .entry)) (now (out .entry))) ⌝ }
 {
     telling::written(isup_codec::write(circuit, kind, fixed, first, second, optional, out))
 }
 
 // Gives a stretch's start and length, or 13.
 fn give_stretch(at: usize, len: usize, holder: u32, stretch: &mut [usize]) -> u32
-    ensures { λ r. ⌜ given r (now (stretch .exit)) ≡ givenBy (done (now (stretch .entry)) (roomFor (now (stretch .entry)) (holder, at ∷ len ∷ []))) ⌝ }
+    ensures { λ r. ⌜ given r (now (stretch .exit)) ≡
+        givenBy (done (now (stretch .entry)) (roomFor (now (stretch .entry)) (holder, at ∷ len ∷ []))) ⌝ }
 {
     if stretch.len() < 2 {
         return telling::refusal(13, 0);
@@ -98,7 +109,9 @@ fn give_stretch(at: usize, len: usize, holder: u32, stretch: &mut [usize]) -> u3
     holder
 }
 
-// Finds a parameter. Accepted: 0 where the message held it, 100 where the defaults did, and stretch[0..2) are start and length within whichever held it. Refused with the reader's numbers and octets, 11, 15, then 13.
+// Finds a parameter. Accepted: 0 where the message held it, 100 where the defaults did, and
+// stretch[0..2) are start and length within whichever held it. Refused with the reader's numbers
+// and octets, 11, 15, then 13.
 #[no_mangle]
 pub extern "C" fn llachurep_find(
     message: &[u8],
@@ -106,7 +119,8 @@ pub extern "C" fn llachurep_find(
     name: u32,
     stretch: &mut [usize],
 ) -> u32
-    ensures { λ r. ⌜ given r (now (stretch .exit)) ≡ givenBy (findGives (now (message .entry)) (now (defaults .entry)) name (now (stretch .entry))) ⌝ }
+    ensures { λ r. ⌜ given r (now (stretch .exit)) ≡
+        givenBy (findGives (now (message .entry)) (now (defaults .entry)) name (now (stretch .entry))) ⌝ }
 {
     match locating::locate(message, defaults, name) {
         Located::Message(at, len) => give_stretch(at, len, 0, stretch),

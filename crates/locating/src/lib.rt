@@ -21,9 +21,12 @@ fn named_in(message: &[u8], run: Span, name: u8) -> Found
     Found::Nowhere
 }
 
-// Where the first parameter of that name has its contents: in the message, else in the defaults, an optional run without its closing 0. Refused with the reader's numbers, then 11 for the defaults, then 15.
+// Where the first parameter of that name has its contents: in the message, else in
+// the defaults, an optional run without its closing 0. Refused with the reader's
+// numbers, then 11 for the defaults, then 15.
 pub fn locate(message: &[u8], defaults: &[u8], name: u32) -> Located
-    ensures { λ r. ⌜ locatedTold r ≡ locateOf (now (message .entry)) (now (defaults .entry)) name ⌝ }
+    ensures { λ r. ⌜ locatedTold r ≡
+        locateOf (now (message .entry)) (now (defaults .entry)) name ⌝ }
 {
     match isup_codec::read(message) {
         Reading::Refused(n, at) => Located::Refused(n, at),
@@ -36,7 +39,8 @@ pub fn locate(message: &[u8], defaults: &[u8], name: u32) -> Located
 
 // The same in a message that reads, whose optional run is `run`.
 fn locate_in(message: &[u8], run: Span, defaults: &[u8], name: u32) -> Located
-    ensures { λ r. ⌜ locatedTold r ≡ soughtIn (now (message .entry)) run (now (defaults .entry)) name ⌝ }
+    ensures { λ r. ⌜ locatedTold r ≡
+        soughtIn (now (message .entry)) run (now (defaults .entry)) name ⌝ }
 {
     if runs::is_run(defaults) {
         if 255 < name {
@@ -49,7 +53,8 @@ fn locate_in(message: &[u8], run: Span, defaults: &[u8], name: u32) -> Located
 
 // The message's first parameter of that name, else the defaults'.
 fn first_of(message: &[u8], run: Span, defaults: &[u8], name: u8) -> Located
-    ensures { λ r. ⌜ locatedTold r ≡ firstOf (now (message .entry)) run (now (defaults .entry)) name ⌝ }
+    ensures { λ r. ⌜ locatedTold r ≡
+        firstOf (now (message .entry)) run (now (defaults .entry)) name ⌝ }
 {
     match named_in(message, run, name) {
         Found::At(at, len) => Located::Message(at, len),
@@ -60,21 +65,26 @@ fn first_of(message: &[u8], run: Span, defaults: &[u8], name: u8) -> Located
     }
 }
 
-// The contents of the first parameter of that name, as that stretch of the message itself; the empty stretch at its start where there is none.
+// The contents of the first parameter of that name, as that stretch of the message itself; the
+// empty stretch at its start where there is none.
 pub fn find(message: &[u8], name: u32) -> &[u8]
-    ensures { λ r. ⌜ Stretch (message .entry) (stretchStart (locateOf (now (message .entry)) [] name)) (stretchLength (locateOf (now (message .entry)) [] name)) r ⌝ }
+    ensures { λ r. ⌜ Stretch (message .entry)
+        (stretchStart (locateOf (now (message .entry)) [] name))
+        (stretchLength (locateOf (now (message .entry)) [] name)) r ⌝ }
 {
     find_or_default(message, &message[0..0], name)
 }
 
-// What `find` answers by: 0 where the message holds the parameter, or the refusal's number with its octet.
+// What `find` answers by: 0 where the message holds the parameter, or the
+// refusal's number with its octet.
 pub fn find_code(message: &[u8], name: u32) -> Code
     ensures { λ r. ⌜ r ≡ codeOf (locateOf (now (message .entry)) [] name) ⌝ }
 {
     find_or_default_code(message, &message[0..0], name)
 }
 
-// The contents of the first parameter of that name, as that stretch of the message, else of the defaults; the empty stretch at the message's start where neither has it.
+// The contents of the first parameter of that name, as that stretch of the message, else of the
+// defaults; the empty stretch at the message's start where neither has it.
 pub fn find_or_default<'a>(message: &'a [u8], defaults: &'a [u8], name: u32) -> &'a [u8]
     ensures { λ r. ⌜ Stretch
         (heldBy (locateOf (now (message .entry)) (now (defaults .entry)) name) (message .entry) (defaults .entry))
@@ -88,7 +98,8 @@ pub fn find_or_default<'a>(message: &'a [u8], defaults: &'a [u8], name: u32) -> 
     }
 }
 
-// What `find_or_default` answers by: 0 where the message holds the parameter, 100 where the defaults do, or the refusal's number with its octet.
+// What `find_or_default` answers by: 0 where the message holds the parameter, 100 where the
+// defaults do, or the refusal's number with its octet.
 pub fn find_or_default_code(message: &[u8], defaults: &[u8], name: u32) -> Code
     ensures { λ r. ⌜ r ≡ codeOf (locateOf (now (message .entry)) (now (defaults .entry)) name) ⌝ }
 {

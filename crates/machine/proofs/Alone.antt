@@ -1,4 +1,5 @@
--- Demand 3 for the customer who checks: a sender's four numbers are those of the book with the other senders' messages left out.
+-- Demand 3 for the customer who checks: a sender's four numbers are those of the book with the
+-- other senders' messages left out.
 -- A message of length 0, or of sender 0, is refused and changes nothing.
 use Prim.Native.Nat.{ℕ, zero, suc, _+_, _≤_}
 use mathlib.Core.Path.{_≡_, refl, sym, _∙_, ap}

@@ -1,4 +1,5 @@
--- Any two answers that the contract of `feed` allows are one, and what it is lent holds the same octets afterwards. What the three functions come to, in turn.
+-- Any two answers that the contract of `feed` allows are one, and what it is lent holds the same
+-- octets afterwards. What the three functions come to, in turn.
 use Prim.Native.Nat.{ℕ}
 use mathlib.Core.Path.{_≡_, sym, _∙_, ap}
 use mathlib.Core.Bool.{false}
@@ -24,7 +25,8 @@ feed-determined p buffer t chunk x y =
     let e = one-answer x y in
     (ap (λ (z : Fed). z .place) e, ap (λ (z : Fed). z .buffer) e, ap (λ (z : Fed). z .day) e)
 
--- tables or a buffer of other lengths, or a place that no book has: all that was lent is kept, and there is no book
+-- tables or a buffer of other lengths, or a place that no book has: all that
+-- was lent is kept, and there is no book
 pub feed-keeps : (p : Place) (buffer : List ℕ) (t : Day) (chunk : List ℕ) → (daySized t ≡ false) ⊎ (fits p (length buffer) ≡ false) → fedOf p buffer t chunk ≡ fed nowhere buffer t
 feed-keeps p buffer t chunk h =
     ⊎-elim

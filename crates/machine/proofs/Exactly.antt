@@ -61,7 +61,8 @@ pub no-book-exactly : (xs : List ℕ) → AllOctets xs → (text (feedOf start x
 no-book-exactly xs o =
     ((λ e b g p. lines-no-refusal (tallyOf b) (sym (book-replayed b g) ∙ ap (λ (l : List ℕ). text (feedOf start l)) p ∙ e)), refused-otherwise xs o)
 
--- which is: exactly where they are cut off, or octets are left over, or a span is bad, or a message is longer than 268
+-- which is: exactly where they are cut off, or octets are left over, or a span
+-- is bad, or a message is longer than 268
 pub replay-judged : (xs : List ℕ) → AllOctets xs → (text (feedOf start xs) ≡ noBook) ↔ Faulty xs
 replay-judged xs o =
     let n = no-book-exactly xs o in

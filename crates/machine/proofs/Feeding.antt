@@ -1,4 +1,5 @@
--- Feeding in any chunks is feeding the whole; what is awaited is collected, and completed with its last octet.
+-- Feeding in any chunks is feeding the whole; what is awaited is collected,
+-- and completed with its last octet.
 use Prim.Native.Nat.{ℕ, _+_, _<_}
 use mathlib.Core.Path.{_≡_, refl, _∙_, ap}
 use mathlib.Core.List.{List, [], _∷_, _++_, append-assoc}

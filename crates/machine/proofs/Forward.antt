@@ -1,4 +1,5 @@
--- The octets of a good book, from the start on: each count, each span and each message is taken, and the book has ended.
+-- The octets of a good book, from the start on: each count, each span and each
+-- message is taken, and the book has ended.
 use Prim.Native.Nat.{ℕ, suc, _+_, _-_, _<_, _≤_}
 use mathlib.Core.Path.{_≡_, refl, sym, _∙_, ap}
 use mathlib.Core.Bool.{Bool}

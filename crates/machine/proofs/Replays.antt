@@ -32,7 +32,8 @@ pub book-replayed : (b : Book) → Good b → text (feedOf start (bookOctets b))
 unfolding textOf
 book-replayed b g = ap text (feed-book b g) ∙ ap linesFor (fun-ext (same-tally b g))
 
--- the counters never wrap: at the end of a good book each is the count over the replay itself, and all of them together are at most 65535
+-- the counters never wrap: at the end of a good book each is the count over the replay itself, and
+-- all of them together are at most 65535
 count-most : (q : ℕ) (ss : List Recorded) → count (comesFrom q) ss ≤ length ss
 unfolding count
 count-most q [] = omega arith

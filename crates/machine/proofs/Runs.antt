@@ -1,4 +1,5 @@
--- What the three functions answer, in turn, for chunks of any sizes: the report is the text of the whole.
+-- What the three functions answer, in turn, for chunks of any sizes: the
+-- report is the text of the whole.
 use Prim.Native.Nat.{ℕ, suc, _+_, _-_, _<_, _≤_}
 use mathlib.Core.Path.{_≡_, refl, sym, _∙_, ap, subst}
 use mathlib.Core.Bool.{Bool, true, false}

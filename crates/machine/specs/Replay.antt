@@ -36,7 +36,8 @@ outcomes owners rows (s ∷ ss) =
 -- the rows after all of them
 unfoldable pub rowsAtEnd : List ℕ → Rows → List Recorded → Rows
 rowsAtEnd owners rows [] = rows
-rowsAtEnd owners rows (s ∷ ss) = rowsAtEnd owners (heardOf owners rows (s .sender) (s .message) .rows) ss
+rowsAtEnd owners rows (s ∷ ss) =
+    rowsAtEnd owners (heardOf owners rows (s .sender) (s .message) .rows) ss
 
 -- how many of a list pass a test
 unfoldable pub count : {A : Type 0} → (A → Bool) → List A → ℕ

@@ -1,4 +1,5 @@
--- The status of a group: a bit for each of the circuits m to m+r, low bit first in each octet; the bits beyond are spare.
+-- The status of a group: a bit for each of the circuits m to m+r, low bit first
+-- in each octet; the bits beyond are spare.
 use Prim.Native.Nat.{ℕ, zero, suc, _+_, _*_, _/_, _%_, _^_}
 use mathlib.Core.List.{List}
 use lib.Dec.{ltb}
@@ -20,7 +21,8 @@ unfoldable pub marksIn : ℕ → List ℕ → ℕ
 marksIn r status = total (statusBit status) 0 (r + 1)
 
 -- ---- the status octets of an answer
--- octet j of the answer's status: the message's, 0 where the message has none, and in the last the bits past circuit m+r are spare, 0
+-- octet j of the answer's status: the message's, 0 where the message has none, and in the last the
+-- bits past circuit m+r are spare, 0
 unfoldable pub statusOctet : ℕ → List ℕ → ℕ → ℕ
 statusOctet range status j =
     if ltb j (range / 8) then octet status j
@@ -30,7 +32,8 @@ statusOctet range status j =
 unfoldable pub bitsIn : ℕ → ℕ → ℕ
 bitsIn range j = if ltb j (range / 8) then 8 else range % 8 + 1
 
--- a bit for each of n rows from row i of the group on, low bit first: 1 where the circuit is locally blocked
+-- a bit for each of n rows from row i of the group on, low bit first: 1 where
+-- the circuit is locally blocked
 unfoldable pub lockedBits : List ℕ → ℕ → ℕ → ℕ
 lockedBits group i zero = 0
 lockedBits group i (suc n) = local (octet group i) + 2 * lockedBits group (suc i) n

@@ -5,7 +5,8 @@ ghost use lib.ListN.{length};
 ghost use Rattle.octets.specs.Sum.{total};
 ghost use Rattle.marks.specs.Marks.{statusBit, cutTo, marksIn, statusOctet, bitsIn, lockedOctet};
 
-// The low bits of an octet, as many as the last status octet of that range has; the spare bits are 0.
+// The low bits of an octet, as many as the last status octet of that range
+// has; the spare bits are 0.
 pub fn cut(octet: u8, range: u8) -> u8
     ensures { λ r. ⌜ r ≡ cutTo octet range ⌝ }
 {
@@ -27,7 +28,8 @@ fn ones_in(octets: &[u8], count: usize) -> u8
     ones
 }
 
-// How many of the circuits m to m+range a status marks: its bits 0 to range that are 1. What is past the status's end counts as 0.
+// How many of the circuits m to m+range a status marks: its bits 0 to range that are 1. What is
+// past the status's end counts as 0.
 pub fn marks_in(range: u8, status: &[u8]) -> usize
     ensures { λ r. ⌜ r ≡ marksIn range (now (status .entry)) ⌝ }
 {
@@ -39,7 +41,8 @@ pub fn marks_in(range: u8, status: &[u8]) -> usize
     ones_in(status, status.len()) as usize
 }
 
-// Octet j of an answer's status: that of the message, its spare bits 0, and 0 where the message has none.
+// Octet j of an answer's status: that of the message, its spare bits 0, and
+// 0 where the message has none.
 pub fn status_octet(range: u8, status: &[u8], j: usize) -> u8
     ensures { λ r. ⌜ r ≡ statusOctet range (now (status .entry)) j ⌝ }
 {
@@ -60,7 +63,8 @@ fn bits_in(range: u8, j: u8) -> u8
     range % 8 + 1
 }
 
-// Octet j of the status that GRA has: a 1 for each circuit of the group that is locally blocked, low bit first, and spare bits 0.
+// Octet j of the status that GRA has: a 1 for each circuit of the group that is locally blocked,
+// low bit first, and spare bits 0.
 pub fn locked_octet(range: u8, group: &[u8], j: u8) -> u8
     ensures { λ r. ⌜ r ≡ lockedOctet range (now (group .entry)) j ⌝ }
 {

@@ -1,4 +1,5 @@
--- What measuring comes to, from what was tested on the way, and what it says of the frame. A caller hands over what its calls ensure.
+-- What measuring comes to, from what was tested on the way, and what it says of the frame. A caller
+-- hands over what its calls ensure.
 use Prim.Native.Nat.{ℕ, _+_, _≤_, _<_}
 use mathlib.Core.Path.{_≡_, refl, sym, _∙_, ap}
 use mathlib.Core.Bool.{true, false}
@@ -20,7 +21,8 @@ pub pointing : (s : Shape) (l : Lengths) (g z : ℕ) → g ≡ gap s → z ≡ r
 pointing s l g z eg ez = rw (ez, eg) refl
 
 module _ (s : Shape) (most : ℕ) (l : Lengths) where
-  -- what is accepted is the frame, which holds every length and pointer and fits the longest message
+  -- what is accepted is the frame, which holds every length and pointer and
+  -- fits the longest message
   pub measured-frame : (f : Frame) → accepted f ≡ measureOf s most l → (unheld s l ≡ false) × (ltb most (sizeOf s l) ≡ false) × (f ≡ frameOf s l)
   unfolding measureOf
   measured-frame f e =

@@ -17,7 +17,8 @@ pub four-unfit : unfitOf (shape 4 false) [] [] [] [] [] ≡ true
 unfolding unfitOf
 four-unfit = refl
 
--- contents for a third part of a type that has two: a test that looks at the second once more says that this fits
+-- contents for a third part of a type that has two: a test that looks at the
+-- second once more says that this fits
 pub third-unfit : unfitOf (shape 2 false) [] [] [] (7 ∷ []) [] ≡ true
 unfolding unfitOf
 third-unfit = refl

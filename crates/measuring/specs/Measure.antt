@@ -1,4 +1,5 @@
--- Whether what is to be written fits the shape; and the compact form in plain numbers: what its pointers say, and how many octets there are.
+-- Whether what is to be written fits the shape; and the compact form in plain numbers: what its
+-- pointers say, and how many octets there are.
 -- That these say the same as the octets themselves is proved in crate writing, proofs/Plain.antt.
 use Prim.Native.Nat.{ℕ, _+_}
 use mathlib.Core.Bool.{Bool, true, false}
@@ -17,7 +18,8 @@ use Rattle.measuring.specs.declared.Frame.{Frame}
 abbrev pub lacksOf : ℕ → ℕ → List ℕ → Bool
 lacksOf n k c = if ltb k n then false else ltb 0 (length c)
 
--- 10: a shape of more than three variable parts, fixed octets of wrong count, or contents for a part that the type lacks
+-- 10: a shape of more than three variable parts, fixed octets of wrong count, or contents for a
+-- part that the type lacks
 unfoldable pub unfitOf : Shape → List ℕ → List ℕ → List ℕ → List ℕ → List ℕ → Bool
 unfitOf s fixed a b c r =
     if ltb 3 (s .vars) then true
@@ -36,11 +38,13 @@ countOf n = if ltb n 3 then n else 3
 abbrev pub gap : Shape → ℕ
 gap s = countOf (s .vars) + bit (s .opt)
 
--- what the optional pointer says, before a run of r octets that starts g octets past it: 0 if there are no optional parameters
+-- what the optional pointer says, before a run of r octets that starts g octets past it: 0 if there
+-- are no optional parameters
 abbrev pub reach : ℕ → ℕ → ℕ
 reach r g = if ltb 0 r then g else 0
 
--- what the pointers say: each reaches over the pointers from itself on and over the parameters before its own
+-- what the pointers say: each reaches over the pointers from itself on and
+-- over the parameters before its own
 abbrev pub pointersOf : Shape → Lengths → Pointers
 pointersOf s l = record {
   first = gap s;
@@ -75,9 +79,12 @@ unheld s l = if tooLong l then true else tooFar (s .vars) (pointersOf s l)
 abbrev pub runSize : ℕ → ℕ
 runSize r = if ltb 0 r then r + 1 else 0
 
--- the header, the type and the fixed octets; the pointers; the variable parameters, each with its length octet; the optional part
+-- the header, the type and the fixed octets; the pointers; the variable parameters, each with its
+-- length octet; the optional part
 abbrev pub sizeOf : Shape → Lengths → ℕ
-sizeOf s l = l .head + 1 + s .fixed + gap s + (countOf (s .vars) + l .first + l .second + l .third) + runSize (l .run)
+sizeOf s l =
+    l .head + 1 + s .fixed + gap s + (countOf (s .vars) + l .first + l .second + l .third)
+    + runSize (l .run)
 
 -- the compact form, measured
 abbrev pub frameOf : Shape → Lengths → Frame

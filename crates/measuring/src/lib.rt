@@ -1,4 +1,5 @@
-// How long the compact form of a message is, or which number refuses it, for any shape row and any header, from the lengths of its parts.
+// How long the compact form of a message is, or which number refuses it, for any shape row and any
+// header, from the lengths of its parts.
 ghost use mathlib.Core.Path.{_≡_};
 ghost use Prim.Native.Nat.{_≤_};
 ghost use Rattle.measuring.specs.Measure.{lacksOf, unfitOf, countOf, gap, reach, pointersOf, tooLong, beyondOf, tooFar, runSize, sizeOf, measureOf};
@@ -8,7 +9,8 @@ use layout::Shape;
 // The most that a length octet or a pointer can say.
 const LARGEST: usize = 255;
 
-// How many octets there are of what is to be written, beside the type and the fixed octets that the shape counts: an unused content has none, and the run is without its closing 0.
+// How many octets there are of what is to be written, beside the type and the fixed octets that the
+// shape counts: an unused content has none, and the run is without its closing 0.
 pub struct Lengths {
     pub head: usize,
     pub first: usize,
@@ -17,7 +19,8 @@ pub struct Lengths {
     pub run: usize,
 }
 
-// What the pointers say: to each variable parameter, and to the optional part. One that the shape lacks is not written.
+// What the pointers say: to each variable parameter, and to the optional part.
+// One that the shape lacks is not written.
 pub struct Pointers {
     pub first: usize,
     pub second: usize,
@@ -47,7 +50,8 @@ fn lacks(vars: u8, k: u8, contents: &[u8]) -> bool
     0 < contents.len()
 }
 
-// Whether the shape has more than three variable parts, the fixed octets have another count than it says, or there are contents for a part that it lacks: 10.
+// Whether the shape has more than three variable parts, the fixed octets have another count than it
+// says, or there are contents for a part that it lacks: 10.
 pub fn unfit(
     shape: Shape,
     fixed: &[u8],
@@ -56,7 +60,9 @@ pub fn unfit(
     third: &[u8],
     run: &[u8],
 ) -> bool
-    ensures { λ r. ⌜ r ≡ unfitOf shape (now (fixed .entry)) (now (first .entry)) (now (second .entry)) (now (third .entry)) (now (run .entry)) ⌝ }
+    ensures { λ r. ⌜ r ≡
+        unfitOf shape (now (fixed .entry)) (now (first .entry)) (now (second .entry))
+        (now (third .entry)) (now (run .entry)) ⌝ }
 {
     if 3 < shape.vars {
         return true;
@@ -95,7 +101,8 @@ fn gap_of(shape: Shape) -> usize
     count
 }
 
-// What the optional pointer says, before a run of r octets that starts so far past it: 0 where the run is empty.
+// What the optional pointer says, before a run of r octets that starts so far
+// past it: 0 where the run is empty.
 fn reach_of(r: usize, pointer: usize) -> usize
     ensures { λ x. ⌜ x ≡ reach r pointer ⌝ }
 {
@@ -169,7 +176,8 @@ fn run_size(r: usize) -> usize
 
 // How many octets the compact form has.
 fn size_of(shape: Shape, lengths: Lengths) -> usize
-    requires { ⌜ (lengths .first ≤ 255) × (lengths .second ≤ 255) × (lengths .third ≤ 255) × (lengths .head ≤ 65535) × (lengths .run ≤ 65535) ⌝ }
+    requires { ⌜ (lengths .first ≤ 255) × (lengths .second ≤ 255) × (lengths .third ≤ 255)
+        × (lengths .head ≤ 65535) × (lengths .run ≤ 65535) ⌝ }
     ensures { λ x. ⌜ x ≡ sizeOf shape lengths ⌝ }
 {
     let front = lengths.head + 1 + shape.fixed as usize + gap_of(shape);
@@ -177,7 +185,8 @@ fn size_of(shape: Shape, lengths: Lengths) -> usize
     front + parts + run_size(lengths.run)
 }
 
-// The compact form's frame: 12 where a length or a pointer is more than an octet can say, then 2 where there are more octets than `most`.
+// The compact form's frame: 12 where a length or a pointer is more than an octet can say, then 2
+// where there are more octets than `most`.
 pub fn measure(shape: Shape, most: u16, lengths: Lengths) -> Measured
     ensures { λ x. ⌜ measuredTold x ≡ measureOf shape most lengths ⌝ }
 {

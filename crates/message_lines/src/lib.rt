@@ -22,9 +22,11 @@ pub fn part(message: &[u8], span: Span) -> &[u8]
     pieces::stretch(message, from, to - from)
 }
 
-// Puts the parts of a message of any family from `at` on, and answers the next place. A third variable part is not shown.
+// Puts the parts of a message of any family from `at` on, and answers the next place. A third
+// variable part is not shown.
 pub fn put_parts(message: &[u8], parts: Parts, out: &mut [u8], at: usize) -> usize
-    ensures { λ r. ⌜ sheet (now (out .exit)) r ≡ pour (sheet (now (out .entry)) at) (partsLine (now (message .entry)) parts) ⌝ }
+    ensures { λ r. ⌜ sheet (now (out .exit)) r ≡
+        pour (sheet (now (out .entry)) at) (partsLine (now (message .entry)) parts) ⌝ }
 {
     let fixed = sayings::put_shown(b" fixed ", part(message, parts.fixed), out, at);
     let first = sayings::put_shown(b" first ", part(message, parts.first), out, fixed);
@@ -34,7 +36,9 @@ pub fn put_parts(message: &[u8], parts: Parts, out: &mut [u8], at: usize) -> usi
 
 // What a message says that reads so.
 fn say_message(message: &[u8], x: Message, out: &mut [u8]) -> usize
-    ensures { λ r. ⌜ sheet (now (out .exit)) r ≡ pour (sheet (now (out .entry)) 0) (readLine (now (message .entry)) (readingTold (Reading.Read x))) ⌝ }
+    ensures { λ r. ⌜ sheet (now (out .exit)) r ≡
+        pour (sheet (now (out .entry)) 0)
+        (readLine (now (message .entry)) (readingTold (Reading.Read x))) ⌝ }
 {
     let parts = x.parts;
     let circuit = sayings::put_count(b"circuit ", x.circuit as usize, out, 0);
@@ -44,7 +48,9 @@ fn say_message(message: &[u8], x: Message, out: &mut [u8]) -> usize
 
 // Puts what a message says at the front of `out`, and answers the next place.
 pub fn say_read(message: &[u8], out: &mut [u8]) -> usize
-    ensures { λ r. ⌜ sheet (now (out .exit)) r ≡ pour (sheet (now (out .entry)) 0) (readLine (now (message .entry)) (readOf (now (message .entry)))) ⌝ }
+    ensures { λ r. ⌜ sheet (now (out .exit)) r ≡
+        pour (sheet (now (out .entry)) 0)
+        (readLine (now (message .entry)) (readOf (now (message .entry)))) ⌝ }
 {
     match isup_codec::read(message) {
         Reading::Refused(n, at) => sayings::say_fault(n, at, out),

@@ -1,4 +1,5 @@
--- What C can tell from the two numbers: which plans are good, that ours is, and which refusal it was.
+-- What C can tell from the two numbers: which plans are good, that ours is,
+-- and which refusal it was.
 use Prim.Native.Nat.{ℕ, _≤_, _<_}
 use mathlib.Core.Path.{_≡_, refl, sym, _∙_, ap}
 use mathlib.Core.Bool.{Bool, true, false}

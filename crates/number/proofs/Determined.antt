@@ -1,4 +1,5 @@
--- What the contract of reading says is all: any two outcomes that it allows are equal, and a refusal keeps the lent buffer.
+-- What the contract of reading says is all: any two outcomes that it allows are equal, and a
+-- refusal keeps the lent buffer.
 use Prim.Native.Nat.{ℕ}
 use mathlib.Core.Path.{_≡_, sym, _∙_, ap}
 use mathlib.Core.List.{List}

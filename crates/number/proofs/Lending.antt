@@ -1,7 +1,11 @@
--- A function that lends its buffer: `fn f(octets: &&[u8], mut buffer: &mut [u8], n: usize) { g(octets, &mut buffer, 0, n); }`. The local that holds the buffer is lent to the call, so that g can hand it on as one word (`Lent.antt`). The walk of its MIR, by hand, for any g of that shape.
+-- A function that lends its buffer: `fn f(octets: &&[u8], mut buffer: &mut [u8], n: usize) {
+-- g(octets, &mut buffer, 0, n); }`. The local that holds the buffer is lent to the call, so that g
+-- can hand it on as one word (`Lent.antt`). The walk of its MIR, by hand, for any g of that shape.
 --     lending g        its code
---     Lends            what f and g ask and leave, over lists: where f asks enough for g, and g keeps the reference and leaves the list that f says
---     lender-meets     f meets its contract, from g's.        All that it knows of g is that g meets its contract
+-- Lends            what f and g ask and leave, over lists: where f asks enough for g, and g keeps
+-- the reference and leaves the list that f says
+-- lender-meets     f meets its contract, from g's.        All that it knows
+-- of g is that g meets its contract
 -- Assumes nothing.
 use mathlib.Core.Path.{_≡_, refl, ap, _∙_}
 use Prim.Native.Nat.{ℕ, _<_, _^_}
@@ -175,19 +179,23 @@ module _ {M : Type 1} (𝓤 : URA M) (H : Heap 𝓤) (A : Atoms 𝓤) (W : Given
         qed W ((‵ (flft κ₀ q₀) ⊛ ‵ (flft κ₁ q₁) ⊛ ‵ (flft κ₂ q₂) ⊛ ‵ ftrue) ∷ ‵ (owns (C₀ ∷ MutSlice (named 2) κ₂ u8 ∷ usize ∷ []) a vals) ∷ []) ∵ enter ! C Λ (lending g) (p ∷ s ∷ vint w64 n ∷ []) _ $
         alloc1 ! (λ l₀. alloc1 ! (λ l₁. alloc1 ! (λ l₂. alloc1 ! (λ l₃. alloc1 ! (λ l₄. alloc1 ! (λ l₅. alloc1 ! (λ l₆. alloc0 ! $ params1 ! $
         pass1 ! (init ! 10 refl (tt, tt)) $ pass1 ! (init ! 8 refl (tt, (tt, (record { fits = room .0 }, tt)))) $ pass1 ! (init ! 6 refl (tt, record { fits = n-fits })) $ pass0 ! $
-        -- [_6; …; _5; …; _4; …; _3; …; _2; …; _1; …; room for _0; …; the tokens; what the parameters own]
+        -- [_6; …; _5; …; _4; …; _3; …; _2; …; _1; …; room for _0; …; the
+        -- tokens; what the parameters own]
         assigns ! (of-opd ! (load ! (from ! (stop !)) (look ! 8 refl))) (from ! (stop !)) (init ! 4 refl (tt, (tt, (record { fits = room .0 }, tt)))) $
         assigns ! (addr ! (from ! (stop !))) (from ! (stop !)) (init ! 0 refl (tt, tt)) $
         -- _4 is lent
         move ! (15 ∷ []) $ fsplit ! $ move ! (1 ∷ []) $ fsplit ! $ move ! (17 ∷ []) $ split ! $ move ! (1 ∷ []) $ split ! $ move ! (1 ∷ []) $ split ! $
-        -- [κ₂; true; κ₁; κ₀; the buffer; n; the octets; _6; …; _5; …; _4; …; _3; …; _2; …; _1; …; room for _0; …]
+        -- [κ₂; true; κ₁; κ₀; the buffer; n; the octets; _6; …; _5; …; _4; …; _3;
+        -- …; _2; …; _1; …; room for _0; …]
         move ! (11 ∷ 4 ∷ 0 ∷ []) $
         use3 W (later (some (λ (ν : ℕ). some (λ (δ : GName). (‵ (flft (ν ∷ κ₂) (PosShare·left q₂)) ⊛ ‵ (flft κ₂ (PosShare·right q₂))) ⊛ (‵ (MutRef (named 2) (ν ∷ κ₂) R .own (taken l₄ δ) (vptr l₄ 0 ∷ [])) ⊛ (‵ (flent (ν ∷ κ₂) (Body (mem R) l₄ 0 δ)) ⊛ raw (Rest 𝓤 H A W ν (PosShare·left q₂))))))))
         (lent.lends-slot 𝓤 H A W u8 (named 3) κ₂ q₂ l₄ (named 2) x) $ await ! tt $ pick ! (λ ν. pick ! (λ δ. split ! $ move ! (1 ∷ []) $ split ! $
-        -- [the reference to _4; what is kept; the call's tokens; true; κ₁; κ₀; n; the octets; _6; …; _5; …; _4's end; _3; …; _2; …; _1; …; room for _0; …]
+        -- [the reference to _4; what is kept; the call's tokens; true; κ₁; κ₀; n; the octets; _6;
+        -- …; _5; …; _4's end; _3; …; _2; …; _1; …; room for _0; …]
         move ! (7 ∷ 0 ∷ []) $ join ! $ move ! (2 ∷ 0 ∷ []) $ move ! (5 ∷ 4 ∷ []) $ join ! $
         use3 W (raw (Taker 𝓤 H A L .pre (to-taker l₄ ν δ))) (goes ok l₄ ν δ) $
-        -- [what the call asks; what is kept; true; n; _6; …; _5; …; _4's end; _3; …; _2; …; _1; …; room for _0; …]
+        -- [what the call asks; what is kept; true; n; _6; …; _5; …; _4's end; _3;
+        -- …; _2; …; _1; …; room for _0; …]
         calls-at ! fm (Taker 𝓤 H A L) known (to-taker l₄ ν δ) (and-then ! (load ! (from ! (stop !)) (look ! 13 refl)) (and-then ! (load ! (from ! (stop !)) (look ! 4 refl)) (and-then ! (lit ! tt) (and-then ! (load ! (from ! (stop !)) (look ! 9 refl)) (no-more !))))) (λ w.
         use1 W (later (some (λ (r : Unit {0}). ((‵ (flft κ₀ q₀) ⊛ (‵ (flft κ₁ q₁) ⊛ (‵ (flft (ν ∷ κ₂) (PosShare·left q₂)) ⊛ (‵ (flft κ₂ (PosShare·right q₂)) ⊛ ‵ ftrue)))) ⊛ ‵ (unit .own r (w ∷ []))) ⊛ raw (ensured 𝓤 H A taker (taker-clauses 𝓤 L) (κs ν) (args l₄ δ) tt r)))) (id⊢ 𝓤 _) $ await ! tt $ pick ! (λ r.
         split ! $ move ! (1 ∷ []) $ use1 W (some (λ (zs : Unit {0} × (RefT (List ℕ) × (Unit {0} × (Unit {0} × Unit {0})))). ‵ (lasts taker (κs ν) (args l₄ δ) zs) ⊛ raw (fact 𝓤 (zs .1 .0 ≡ at-last x (L .fills (now (now c)) (now x) 0 n))))) (id⊢ 𝓤 _) $ pick ! (λ zs.
@@ -195,10 +203,12 @@ module _ {M : Type 1} (𝓤 : URA M) (H : Heap 𝓤) (A : Atoms 𝓤) (W : Given
         -- [the last value; …; …; the tokens and the result; what is kept; true; n; _6; …]
         move ! (3 ∷ []) $ split ! $ move ! (1 ∷ []) $ peeks ! unit (Is unit) (shows 𝓤 H A unit) r (w ∷ []) (λ is. land ! (from ! (stop !)) (init ! 10 refl (nothing-lawful 𝓤 H A W .typed r _ is .0)) $
         move ! (1 ∷ []) $ split ! $ move ! (1 ∷ []) $ split ! $ move ! (1 ∷ []) $ split ! $ move ! (1 ∷ []) $ split ! $
-        -- [κ₂'s half; true; ν's; κ₁; κ₀; the result; the last value; …; …; what is kept; true; n; _6; …; _5; …; _4's end; _3; …; _2; …; _1; …; room for _0; …]
+        -- [κ₂'s half; true; ν's; κ₁; κ₀; the result; the last value; …; …; what is kept; true; n;
+        -- _6; …; _5; …; _4's end; _3; …; _2; …; _1; …; room for _0; …]
         move ! (2 ∷ 0 ∷ []) $ join ! $ move ! (0 ∷ 8 ∷ 5 ∷ []) $
         use3 W (later (‵ (fat fullShare (lent.Slot u8) l₄ 0 (sliceVal (ptr (zs .1 .0)) (length (now (zs .1 .0))))) ⊛ (‵ (R .own (zs .1 .0) (slice-vals (zs .1 .0))) ⊛ ‵ (flft κ₂ q₂)))) (lent.slot-back 𝓤 H A W u8 (named 3) κ₂ q₂ l₄ ν δ (zs .1 .0)) $ await ! tt $ split ! $ move ! (1 ∷ []) $ split ! $
-        -- [the buffer; κ₂; _4; true; κ₁; κ₀; the result; …; …; true; n; _6; …; _5; …; _4's end; _3; …; _2; …; _1; …; room for _0; …]
+        -- [the buffer; κ₂; _4; true; κ₁; κ₀; the result; …; …; true; n; _6; …; _5; …; _4's end; _3;
+        -- …; _2; …; _1; …; room for _0; …]
         rewrite ! 0 (λ (y : RefT (List ℕ)). ‵ (R .own y (slice-vals y))) (e ∙ ap (at-last x) (L .same (now (now c)) (now x) n)) refl $
         rewrite ! 0 (λ (m : ℕ). ‵ (R .own (at-last x ws) (sliceVal (ptr x) m ∷ []))) (L .long (now (now c)) (now x) n) refl $
         assigns ! (of-opd ! (unit-lit !)) (from ! (stop !)) (init ! 22 refl (tt, tt)) $

@@ -1,7 +1,10 @@
--- A local that holds a `&mut [T]` of a parameter is lent to a call, as a `&mut &mut [T]`, and comes back. The loan's lifetime ν ∷ κ is a new one within the slice's own.
+-- A local that holds a `&mut [T]` of a parameter is lent to a call, as a `&mut &mut [T]`, and comes
+-- back. The loan's lifetime ν ∷ κ is a new one within the slice's own.
 --     Slot             the MIR type of such a local
---     lends-slot       the local, the slice and a token of κ  ⊢ ⇛ ∃ ν δ. tokens for the call ∗ the reference to the local, under δ ∗ what the lender keeps
---     slot-back        tokens ∗ what the lender keeps ∗ the last value under δ is the reference y  ⊢ ⇛ (the local, which holds y ∗ what y owns ∗ the token of κ)
+-- lends-slot       the local, the slice and a token of κ  ⊢ ⇛ ∃ ν δ. tokens for the call ∗ the
+-- reference to the local, under δ ∗ what the lender keeps
+-- slot-back        tokens ∗ what the lender keeps ∗ the last value under δ is the reference y  ⊢ ⇛
+-- (the local, which holds y ∗ what y owns ∗ the token of κ)
 -- Assumes `Given`.
 use Prim.Native.Nat.{ℕ}
 use mathlib.Core.List.{List, [], _∷_}
@@ -73,7 +76,8 @@ module _ {M : Type 1} (𝓤 : URA M) (H : Heap 𝓤) (A : Atoms 𝓤) (W : Given
   slot-back ν δ y =
       qed W ((‵ (flft (ν ∷ κ) (PosShare·left q)) ⊛ ‵ (flft κ (PosShare·right q))) ∷ (‵ (flent (ν ∷ κ) (Body (mem R) l 0 δ)) ⊛ raw (Rest 𝓤 H A W ν (PosShare·left q))) ∷ ‵ (fres δ (R .coded .code y)) ∷ []) ∵ updating ! $
       split ! $ move ! (2 ∷ []) $ split ! $ move ! (2 ∷ 1 ∷ []) $
-      -- [the token of ν ∷ κ; the way back to ν's; the lender's part; κ's other half; the last value]
+      -- [the token of ν ∷ κ; the way back to ν's; the
+      -- lender's part; κ's other half; the last value]
       use2 W (later (‵ (fdead (ν ∷ κ)) ⊛ ‵ (flft κ (PosShare·left q)))) (within-end 𝓤 H A W ν κ (PosShare·left q)) $ await ! tt $ split ! $
       -- [ν ∷ κ is over; κ's half; the lender's part; κ's other half; the last value]
       move ! (0 ∷ 2 ∷ 4 ∷ []) $ use3 W (later (‵ (mem R .lies y l 0))) (ref-back 𝓤 H A W R (ν ∷ κ) δ y l 0) $ await ! tt $

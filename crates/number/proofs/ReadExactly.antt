@@ -124,7 +124,8 @@ well-formed-one {contents = contents} v w =
     let e = sym (number-exactly contents _ _ .1 v) ∙ number-exactly contents _ _ .1 w in
     (ap (λ (x : Number × List ℕ). x .0) (accepted-same e), ap (λ (x : Number × List ℕ). x .1) (accepted-same e))
 
--- reading accepts a number exactly where the contents are one whose signals have room, and leaves these at the front of the buffer
+-- reading accepts a number exactly where the contents are one whose signals have room, and leaves
+-- these at the front of the buffer
 pub read-number-exactly : (contents buffer : List ℕ) (number : Number) (left : List ℕ) →
     (readNumberOf contents buffer ≡ leaving (accepted number) left)
     ↔ ((signals : List ℕ) × WellFormedNumber contents number signals × (length signals ≤ length buffer) × (left ≡ filled signals buffer))

@@ -35,6 +35,8 @@ contentsFaults contents =
     ∷ fault 14 0 (MoreThan30 (countIn contents))
     ∷ []
 
--- the faults of reading: those of the contents, then 13 for a buffer too short for the signals, one to an octet
+-- the faults of reading: those of the contents, then 13 for a buffer too short
+-- for the signals, one to an octet
 abbrev pub readFaults : List ℕ → List ℕ → List Fault
-readFaults contents buffer = contentsFaults contents ++ (fault 13 0 (TooShort buffer (countIn contents)) ∷ [])
+readFaults contents buffer =
+    contentsFaults contents ++ (fault 13 0 (TooShort buffer (countIn contents)) ∷ [])

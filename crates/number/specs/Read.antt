@@ -21,7 +21,8 @@ valuesIn contents =
       count = countIn contents;
     }
 
--- the number in the contents and its signals, or 14: fewer than 2 octets, odd with no signals, filler not 0, more than 30 signals
+-- the number in the contents and its signals, or 14: fewer than 2 octets, odd with no signals,
+-- filler not 0, more than 30 signals
 abbrev pub numberIn : List ℕ → Answer (Number × List ℕ)
 numberIn contents =
     if ltb (length contents) 2 then refused 14 0 else

@@ -21,8 +21,10 @@ pub record WellFormedNumber (contents : List ℕ) (number : Number) (signals : L
   pub count : number .count ≡ length signals
   pub few : number .count ≤ 30
   -- the signals are the halves of the octets in order, low half first
-  pub low : (j : ℕ) → 2 * j < number .count → getD signals (2 * j) 0 ≡ lowHalf (getD contents (j + 2) 0)
-  pub high : (j : ℕ) → 2 * j + 1 < number .count → getD signals (2 * j + 1) 0 ≡ highHalf (getD contents (j + 2) 0)
+  pub low : (j : ℕ) → 2 * j < number .count
+      → getD signals (2 * j) 0 ≡ lowHalf (getD contents (j + 2) 0)
+  pub high : (j : ℕ) → 2 * j + 1 < number .count
+      → getD signals (2 * j + 1) 0 ≡ highHalf (getD contents (j + 2) 0)
   -- an odd count leaves a high half as filler 0
   pub filler : (j : ℕ) → number .count ≡ 2 * j + 1 → highHalf (getD contents (j + 2) 0) ≡ 0
 

@@ -3,7 +3,8 @@
 // How many signals a number has at the most.
 pub const MOST_SIGNALS: usize = 30;
 
-// What a number has beside its signals: nature of address, numbering plan, internal network bit, and how many signals there are.
+// What a number has beside its signals: nature of address, numbering plan, internal network bit,
+// and how many signals there are.
 pub struct Number {
     pub nature: u8,
     pub plan: u8,

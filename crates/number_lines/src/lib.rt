@@ -12,7 +12,9 @@ use requests::Request;
 
 // What reading a number found, its signals at the front of a buffer.
 fn say_values(values: NumberRead, buffer: &[u8], out: &mut [u8]) -> usize
-    ensures { λ r. ⌜ sheet (now (out .exit)) r ≡ pour (sheet (now (out .entry)) 0) (signalsLine (readAnswer values) (now (buffer .entry))) ⌝ }
+    ensures { λ r. ⌜ sheet (now (out .exit)) r ≡
+        pour (sheet (now (out .entry)) 0)
+        (signalsLine (readAnswer values) (now (buffer .entry))) ⌝ }
 {
     match values {
         NumberRead::Refused(n) => sayings::say_refusal(n, out),
@@ -32,7 +34,9 @@ fn say_values(values: NumberRead, buffer: &[u8], out: &mut [u8]) -> usize
 
 // Reads a number, and says what it is.
 fn say_number(contents: &[u8], room: usize, out: &mut [u8]) -> usize
-    ensures { λ r. ⌜ sheet (now (out .exit)) r ≡ pour (sheet (now (out .entry)) 0) (numberLine (readNumberOf (now (contents .entry)) (lent room))) ⌝ }
+    ensures { λ r. ⌜ sheet (now (out .exit)) r ≡
+        pour (sheet (now (out .entry)) 0)
+        (numberLine (readNumberOf (now (contents .entry)) (lent room))) ⌝ }
 {
     let mut space = pieces::blank_space();
     let buffer = pieces::front(&mut space, room);
@@ -49,7 +53,9 @@ fn say_dial(
     room: usize,
     out: &mut [u8],
 ) -> usize
-    ensures { λ r. ⌜ sheet (now (out .exit)) r ≡ pour (sheet (now (out .entry)) 0) (octetsLine (writeNumberOf nature plan internal (now (signals .entry)) (lent room))) ⌝ }
+    ensures { λ r. ⌜ sheet (now (out .exit)) r ≡
+        pour (sheet (now (out .entry)) 0)
+        (octetsLine (writeNumberOf nature plan internal (now (signals .entry)) (lent room))) ⌝ }
 {
     let mut space = pieces::blank_space();
     let buffer = pieces::front(&mut space, room);
@@ -57,9 +63,12 @@ fn say_dial(
     sayings::say_written(written, buffer, out)
 }
 
-// Puts the answer's line to a request for a called party number at the front of `out`, and answers the next place. What `out` has no room for is left out.
+// Puts the answer's line to a request for a called party number at the front of `out`, and answers
+// the next place. What `out` has no room for is left out.
 pub fn numbers_line(request: Request, octets: &[u8], out: &mut [u8]) -> usize
-    ensures { λ r. ⌜ sheet (now (out .exit)) r ≡ pour (sheet (now (out .entry)) 0) (numbersLine (request .which) (saidIn (now (octets .entry)) (request .fields))) ⌝ }
+    ensures { λ r. ⌜ sheet (now (out .exit)) r ≡
+        pour (sheet (now (out .entry)) 0)
+        (numbersLine (request .which) (saidIn (now (octets .entry)) (request .fields))) ⌝ }
 {
     let fields = request.fields;
     if request.which == NUMBER {

@@ -1,4 +1,5 @@
-// Called party numbers for C and Rust: reading and writing. With `llachurep` and its like they are one library.
+// Called party numbers for C and Rust: reading and writing. With `llachurep`
+// and its like they are one library.
 ghost use mathlib.Core.Path.{_≡_};
 ghost use Rattle.number.specs.Read.{readNumberOf};
 ghost use Rattle.dialling.specs.Write.{writeNumberOf};
@@ -6,10 +7,12 @@ ghost use Rattle.boundary.specs.Boundary.{given, givenBy};
 ghost use Rattle.numbers.specs.Numbers.{numberGiven};
 use number::NumberRead;
 
-// Reads a called party number, its signals to the front of `signals`. Answers 4294967296 * N + 65536 * nature + 4096 * internal + 256 * plan + count. Refused with 14, then 13.
+// Reads a called party number, its signals to the front of `signals`. Answers 4294967296 * N +
+// 65536 * nature + 4096 * internal + 256 * plan + count. Refused with 14, then 13.
 #[no_mangle]
 pub extern "C" fn llachurep_number_read(contents: &[u8], signals: &mut [u8]) -> u64
-    ensures { λ r. ⌜ given r (now (signals .exit)) ≡ numberGiven (readNumberOf (now (contents .entry)) (now (signals .entry))) ⌝ }
+    ensures { λ r. ⌜ given r (now (signals .exit)) ≡
+        numberGiven (readNumberOf (now (contents .entry)) (now (signals .entry))) ⌝ }
 {
     match signals::read_number(contents, signals) {
         NumberRead::Refused(n) => 4294967296 * n as u64,
@@ -22,7 +25,8 @@ pub extern "C" fn llachurep_number_read(contents: &[u8], signals: &mut [u8]) -> 
     }
 }
 
-// Writes a called party number to the front of `out`. Accepted: how many octets were written. Refused with 14, then 13.
+// Writes a called party number to the front of `out`. Accepted: how many octets were written.
+// Refused with 14, then 13.
 #[no_mangle]
 pub extern "C" fn llachurep_number_write(
     nature: u32,
@@ -31,7 +35,8 @@ pub extern "C" fn llachurep_number_write(
     signals: &[u8],
     out: &mut [u8],
 ) -> u32
-    ensures { λ r. ⌜ given r (now (out .exit)) ≡ givenBy (writeNumberOf nature plan internal (now (signals .entry)) (now (out .entry))) ⌝ }
+    ensures { λ r. ⌜ given r (now (out .exit)) ≡
+        givenBy (writeNumberOf nature plan internal (now (signals .entry)) (now (out .entry))) ⌝ }
 {
     telling::written(keying::write_number(nature, plan, internal, signals, out))
 }

@@ -1,4 +1,5 @@
--- A refusal in the terms of the number that C sees, what a question's number says, and that its contract determines it.
+-- A refusal in the terms of the number that C sees, what a question's number
+-- says, and that its contract determines it.
 use Prim.Native.Nat.{ℕ, _+_, _*_, _/_, _%_}
 use mathlib.Core.Path.{_≡_, refl, _∙_, ap}
 use mathlib.Core.List.{List}
@@ -32,7 +33,8 @@ module _ (states totals : List ℕ) (first last : ℕ) (o : AllOctets totals) (r
   bare : (n at : ℕ) → busyBetween states totals first last ≡ refused n at → Bare n at
   bare = refusal-so Bare _ (busyFaults states totals first last) (busy-judges states totals first last) (λ at h. (omega arith, h .0), (λ at h. (omega arith, h .0), (λ at h. (omega arith, h .0), tt)))
 
-  -- an accepted one says by its two halves how many numbers were looked at and how many circuits are busy
+  -- an accepted one says by its two halves how many numbers were looked at and
+  -- how many circuits are busy
   pub busy-says : (x : Count) → busyBetween states totals first last ≡ accepted x → (r / 65536 ≡ x .looked) × (r % 65536 ≡ x .count)
   busy-says x q =
       let v : r ≡ 65536 * x .looked + x .count = e ∙ ap packedCount q in

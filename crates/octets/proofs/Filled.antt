@@ -1,4 +1,5 @@
--- Laws of an answer with a lent buffer: a refusal keeps the buffer, what is accepted fills its front.
+-- Laws of an answer with a lent buffer: a refusal keeps the buffer, what is
+-- accepted fills its front.
 use Prim.Native.Nat.{ℕ, _≤_}
 use mathlib.Core.Path.{_≡_, refl, sym, _∙_, ap}
 use mathlib.Core.List.{List, [], _∷_, _++_}

@@ -1,4 +1,5 @@
--- What is known of a refusal's number and octet, by the faults that an answer judges or by how it is put together.
+-- What is known of a refusal's number and octet, by the faults that an answer
+-- judges or by how it is put together.
 use Prim.Native.Nat.{ℕ, _≤_}
 use mathlib.Core.Path.{_≡_, refl, sym}
 use mathlib.Core.Bool.{Bool, true, false}

@@ -1,4 +1,5 @@
--- Any two that are the same stretch are the same memory with the same octets. (A reference's ghost name is nothing that a program sees.)
+-- Any two that are the same stretch are the same memory with the same octets. (A reference's ghost
+-- name is nothing that a program sees.)
 use Prim.Native.Nat.{ℕ}
 use mathlib.Core.Path.{_≡_}
 use mathlib.Core.List.{List}

@@ -1,4 +1,5 @@
--- The list of f 0, f 1 and so on, and what stands in it. A table of the code that is this list by computation has the rule f at each place, and no proof writes the table again.
+-- The list of f 0, f 1 and so on, and what stands in it. A table of the code that is this list by
+-- computation has the rule f at each place, and no proof writes the table again.
 use Prim.Native.Nat.{ℕ, zero, suc, _+_, _≤_, _<_}
 use mathlib.Core.Path.{_≡_, refl, _∙_, ap}
 use mathlib.Core.List.{List, [], _∷_}

@@ -1,4 +1,5 @@
--- What is given back: the values, or the refusal's number of document 01 with the octet that it is about (0 where it is about none).
+-- What is given back: the values, or the refusal's number of document 01 with the octet that it is
+-- about (0 where it is about none).
 use Prim.Native.Nat.{ℕ}
 
 -- accepted with its values, or refused with a number and an octet

@@ -1,4 +1,5 @@
--- A list changed in place over a span: each entry becomes a function of its place and its old value.
+-- A list changed in place over a span: each entry becomes a function of its
+-- place and its old value.
 use Prim.Native.Nat.{ℕ, zero, suc, _+_, _-_}
 use mathlib.Core.List.{List}
 use lib.ListN.{getD, set}

@@ -1,11 +1,13 @@
--- Faults in the order of checking. A refusal is the first fault that is present. An answer is accepted if none is.
+-- Faults in the order of checking. A refusal is the first fault that is
+-- present. An answer is accepted if none is.
 use Prim.Native.Nat.{ℕ}
 use mathlib.Core.Path.{_≡_}
 use mathlib.Core.List.{List, [], _∷_}
 use mathlib.Core.Logic.{_⊎_, _↔_}
 use Rattle.octets.specs.Answer.{Answer, accepted, refused}
 
--- a fault: the number that is given back for it, and what it is for the fault to be there, at an octet
+-- a fault: the number that is given back for it, and what it is for the
+-- fault to be there, at an octet
 pub record Fault : Type 1 where
   pub number : ℕ
   pub there : ℕ → Type 0
@@ -24,7 +26,8 @@ abbrev pub None : List Fault → Type 0
 None [] = Unit {0}
 None (f ∷ fs) = Absent f × None fs
 
--- R2. the answer refuses with the first fault in the list's order, and accepts exactly where there is none
+-- R2. the answer refuses with the first fault in the list's order, and
+-- accepts exactly where there is none
 pub record Judges {A : Type 0} (x : Answer A) (fs : List Fault) : Type 0 where
   pub refuses : (n at : ℕ) → (x ≡ refused n at) ↔ First fs n at
   pub accepts : ((a : A) × (x ≡ accepted a)) ↔ None fs

@@ -17,7 +17,8 @@ pub record Done (A : Type 0) : Type 0 where
   pub answer : Answer A
   pub left : List ℕ
 
--- what is accepted is a value and the octets that fill the buffer's front; a refusal keeps all of the buffer
+-- what is accepted is a value and the octets that fill the buffer's front; a
+-- refusal keeps all of the buffer
 abbrev pub done : {A : Type 0} → List ℕ → Answer (A × List ℕ) → Done A
 done buffer (accepted x) = record { answer = accepted (x .0); left = filled (x .1) buffer }
 done buffer (refused n at) = record { answer = refused n at; left = buffer }
@@ -32,4 +33,6 @@ roomFor buffer x = if ltb (length buffer) (length (x .1)) then refused 13 0 else
 
 -- the fault of 13, last of all: there are octets to write, and the lent buffer is shorter
 abbrev pub roomFault : {A : Type 0} → Answer (A × List ℕ) → List ℕ → Fault
-roomFault {A} x buffer = fault 13 0 ((a : A) × (octets : List ℕ) × (x ≡ accepted (a, octets)) × (length buffer < length octets))
+roomFault {A} x buffer =
+    fault 13 0 ((a : A) × (octets : List ℕ) × (x ≡ accepted (a, octets))
+    × (length buffer < length octets))

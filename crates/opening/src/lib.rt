@@ -43,7 +43,8 @@ fn clear_counters(counters: &mut [u16])
     }
 }
 
-// Begins a book: every lent table is made 0. Tables of other lengths are kept, and then there is no book.
+// Begins a book: every lent table is made 0. Tables of other lengths are
+// kept, and then there is no book.
 pub fn begin(
     owners: &mut [u8],
     states: &mut [u8],

@@ -12,7 +12,8 @@ use Rattle.parts.specs.Spans.{span}
 
 -- two parts share an octet where neither ends before the other starts
 unfoldable pub sharesOf : Span → Span → Bool
-sharesOf a b = if leb (b .to) (a .from) then false else if leb (a .to) (b .from) then false else true
+sharesOf a b =
+    if leb (b .to) (a .from) then false else if leb (a .to) (b .from) then false else true
 
 -- the later start of the two
 abbrev pub later : Span → Span → ℕ
@@ -34,9 +35,17 @@ runOf s = if ltb (s .from) (s .to) then span (s .from) (s .to - 1) else s
 
 -- what the parts hold, from the octets that each takes
 unfoldable pub held : Span → Span → Span → Span → Span → Parts
-held f a b c d = record { fixed = f; first = contentsOf a; second = contentsOf b; third = contentsOf c; optional = runOf d }
+held f a b c d =
+    record {
+      fixed = f;
+      first = contentsOf a;
+      second = contentsOf b;
+      third = contentsOf c;
+      optional = runOf d;
+    }
 
--- 8 where two parts share an octet, about the later start: the pairs in pointer order, by first member, then second
+-- 8 where two parts share an octet, about the later start: the pairs in
+-- pointer order, by first member, then second
 unfoldable pub judged : Span → Span → Span → Span → Span → Answer Parts
 judged f a b c d =
     if sharesOf a b then refused 8 (later a b)

@@ -9,7 +9,8 @@ pub struct Span {
     pub to: usize,
 }
 
-// Where a message has its fixed part, the contents of its variable parameters (past their length octets) and its optional run (without the 0 that closes it).
+// Where a message has its fixed part, the contents of its variable parameters (past their length
+// octets) and its optional run (without the 0 that closes it).
 pub struct Parts {
     pub fixed: Span,
     pub first: Span,
@@ -101,7 +102,10 @@ fn judge_pairs(fixed: Span, a: Span, b: Span, c: Span, d: Span) -> Body
     })
 }
 
-// What the parts hold, from the octets that each takes: the fixed part, three variable parameters with their length octets, and the optional part with its closing 0. Or 8 with the later start where two of them share an octet: the first pair that does, in pointer order, by first member and then by second.
+// What the parts hold, from the octets that each takes: the fixed part, three variable
+// parameters with their length octets, and the optional part with its closing 0. Or 8
+// with the later start where two of them share an octet: the first pair that does, in
+// pointer order, by first member and then by second.
 // Where the first part is the only one, there is no pair to look at.
 pub fn judge(fixed: Span, a: Span, b: Span, c: Span, d: Span) -> Body
     ensures { λ r. ⌜ bodyTold r ≡ judged fixed a b c d ⌝ }

@@ -37,8 +37,10 @@ fn right(owners: &[u8], helpers: &[u8], sender: u32, circuit: usize) -> bool
 
 // The first circuit of a group on which the sender has no right ends the search.
 fn first_foreign(owners: &[u8], helpers: &[u8], sender: u32, first: usize, range: usize) -> Search
-    requires { ⌜ (length (now owners) ≡ 4096) × (length (now helpers) ≡ 4096) × (first + range ≤ 4095) ⌝ }
-    ensures { λ r. ⌜ r ≡ firstForeign (now (owners .entry)) (now (helpers .entry)) sender first (range + 1) ⌝ }
+    requires { ⌜ (length (now owners) ≡ 4096) × (length (now helpers) ≡ 4096)
+        × (first + range ≤ 4095) ⌝ }
+    ensures { λ r. ⌜ r ≡
+        firstForeign (now (owners .entry)) (now (helpers .entry)) sender first (range + 1) ⌝ }
 {
     let last = first + range;
     let mut circuit = first;
@@ -137,9 +139,11 @@ fn taken(states: &[u8], act: Act, circuit: usize) -> bool
     }
 }
 
-// 19 or 22 against what is asked, 0 where neither stands against it. Where the sender owns every named circuit the helpers are not looked at.
+// 19 or 22 against what is asked, 0 where neither stands against it. Where the sender owns every
+// named circuit the helpers are not looked at.
 fn against(owners: &[u8], helpers: &[u8], sender: u32, ask: Ask) -> u8
-    requires { ⌜ (length (now owners) ≡ 4096) × (length (now helpers) ≡ 4096) × (ask .circuit + ask .range ≤ 4095) ⌝ }
+    requires { ⌜ (length (now owners) ≡ 4096) × (length (now helpers) ≡ 4096)
+        × (ask .circuit + ask .range ≤ 4095) ⌝ }
     ensures { λ r. ⌜ r ≡ againstOf (now (owners .entry)) (now (helpers .entry)) sender ask ⌝ }
 {
     let circuit = ask.circuit;
@@ -159,8 +163,11 @@ fn against(owners: &[u8], helpers: &[u8], sender: u32, ask: Ask) -> u8
 
 // Whether what is asked is permitted, of a group inside the tables: 19, 22, 20, then 21.
 fn permit_inside(states: &[u8], owners: &[u8], helpers: &[u8], sender: u32, ask: Ask) -> Verdict
-    requires { ⌜ (length (now states) ≡ 4096) × (length (now owners) ≡ 4096) × (length (now helpers) ≡ 4096) × (ask .circuit + ask .range ≤ 4095) ⌝ }
-    ensures { λ r. ⌜ verdictTold r ≡ permittedOf (tables (now (states .entry)) (now (owners .entry)) (now (helpers .entry))) sender ask ⌝ }
+    requires { ⌜ (length (now states) ≡ 4096) × (length (now owners) ≡ 4096)
+        × (length (now helpers) ≡ 4096) × (ask .circuit + ask .range ≤ 4095) ⌝ }
+    ensures { λ r. ⌜ verdictTold r ≡
+        permittedOf (tables (now (states .entry)) (now (owners .entry)) (now (helpers .entry)))
+        sender ask ⌝ }
 {
     let circuit = ask.circuit;
     let range = ask.range;
@@ -178,9 +185,13 @@ fn permit_inside(states: &[u8], owners: &[u8], helpers: &[u8], sender: u32, ask:
     Verdict::Granted(ask)
 }
 
-// What is asked, where the sender may do it on every circuit that is named; else the first of 16 for a table of another length than 4096, 18 for a group that passes circuit 4095, 19, 22, 20 and 21.
+// What is asked, where the sender may do it on every circuit that is named; else
+// the first of 16 for a table of another length than 4096, 18 for a group that
+// passes circuit 4095, 19, 22, 20 and 21.
 pub fn permit(states: &[u8], owners: &[u8], helpers: &[u8], sender: u32, ask: Ask) -> Verdict
-    ensures { λ r. ⌜ verdictTold r ≡ permittedIn (tables (now (states .entry)) (now (owners .entry)) (now (helpers .entry))) sender ask ⌝ }
+    ensures { λ r. ⌜ verdictTold r ≡
+        permittedIn (tables (now (states .entry)) (now (owners .entry)) (now (helpers .entry)))
+        sender ask ⌝ }
 {
     if states.len() != CIRCUITS {
         return Verdict::Refused(16, 0);

@@ -9,9 +9,11 @@ use cursor::Cursor;
 use layout::Row;
 use parts::Body;
 
-// Where stepping starts: the first octet of the optional run; past the message where it has none, or where the reader refuses it.
+// Where stepping starts: the first octet of the optional run; past the message where it has none,
+// or where the reader refuses it.
 fn place_in(message: &[u8], width: u8, most: usize, row: Row) -> usize
-    ensures { λ r. ⌜ r ≡ startBy (now (message .entry)) (partsOf (now (message .entry)) width most row) ⌝ }
+    ensures { λ r. ⌜ r ≡
+        startBy (now (message .entry)) (partsOf (now (message .entry)) width most row) ⌝ }
 {
     match reading::read_parts(message, width, most, row) {
         Body::Broken(_, _) => message.len(),
@@ -52,21 +54,24 @@ pub fn sccp_place(message: &[u8]) -> usize
 
 // The cursor at the first parameter of an ISUP message.
 pub fn start_isup<'a>(message: &'a [u8]) -> Cursor<'a>
-    ensures { λ r. ⌜ (r .message ≡ message .entry) × (r .at ≡ startIn isup (now (message .entry))) ⌝ }
+    ensures { λ r. ⌜ (r .message ≡ message .entry)
+        × (r .at ≡ startIn isup (now (message .entry))) ⌝ }
 {
     steps::resume(message, isup_place(message))
 }
 
 // The cursor at the first parameter of a BICC message.
 pub fn start_bicc<'a>(message: &'a [u8]) -> Cursor<'a>
-    ensures { λ r. ⌜ (r .message ≡ message .entry) × (r .at ≡ startIn bicc (now (message .entry))) ⌝ }
+    ensures { λ r. ⌜ (r .message ≡ message .entry)
+        × (r .at ≡ startIn bicc (now (message .entry))) ⌝ }
 {
     steps::resume(message, bicc_place(message))
 }
 
 // The cursor at the first parameter of an SCCP message.
 pub fn start_sccp<'a>(message: &'a [u8]) -> Cursor<'a>
-    ensures { λ r. ⌜ (r .message ≡ message .entry) × (r .at ≡ startIn sccp (now (message .entry))) ⌝ }
+    ensures { λ r. ⌜ (r .message ≡ message .entry)
+        × (r .at ≡ startIn sccp (now (message .entry))) ⌝ }
 {
     steps::resume(message, sccp_place(message))
 }

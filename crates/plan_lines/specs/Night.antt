@@ -1,4 +1,5 @@
--- What the requests of a maintenance night do (tick, plan, check): the ticks afterwards, and the answer's line. None of them changes another table.
+-- What the requests of a maintenance night do (tick, plan, check): the ticks afterwards, and the
+-- answer's line. None of them changes another table.
 use Prim.Native.Nat.{ℕ}
 use mathlib.Core.Bool.{Bool, true, false}
 use mathlib.Core.List.{List}
@@ -43,7 +44,8 @@ pub record NightAfter : Type 0 where
 abbrev pub nightAfter : List ℕ → List ℕ → NightAfter
 nightAfter ticks line = record { ticks = ticks; line = line }
 
--- the three requests, by what their fields say: tick overwrites the ticks from the first circuit to the last; plan, and check, the family's last, change nothing
+-- the three requests, by what their fields say: tick overwrites the ticks from the first circuit to
+-- the last; plan, and check, the family's last, change nothing
 unfoldable pub nightDone : Tables → List ℕ → ℕ → List FieldSays → NightAfter
 nightDone T ticks which gs =
     if eqb which TICK then nightAfter (spread ticks (numberAt gs 0) (numberAt gs 1) (octetAt gs 2)) (said "ok")

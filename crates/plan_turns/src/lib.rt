@@ -1,4 +1,5 @@
-// What the desk answers to the requests of a maintenance night (tick, plan, check), and what they leave in the ticks.
+// What the desk answers to the requests of a maintenance night (tick, plan,
+// check), and what they leave in the ticks.
 ghost use mathlib.Core.Path.{_≡_};
 ghost use lib.ListN.{length};
 ghost use Rattle.rights.specs.Tables.{tables};
@@ -20,7 +21,8 @@ fn plan_space() -> [u8; 36864]
     [0u8; PLAN_MOST]
 }
 
-// Plans for the ticked circuits with so much room, puts the plan or the refusal, and answers the next place.
+// Plans for the ticked circuits with so much room, puts the plan or the
+// refusal, and answers the next place.
 fn say_plan(
     states: &[u8],
     owners: &[u8],
@@ -32,7 +34,8 @@ fn say_plan(
     out: &mut [u8],
 ) -> usize
     ensures { λ r. ⌜ sheet (now (out .exit)) r ≡
-        pour (sheet (now (out .entry)) 0) (planLine (tables (now (states .entry)) (now (owners .entry)) (now (helpers .entry))) (now (ticks .entry)) sender kind room) ⌝ }
+        pour (sheet (now (out .entry)) 0)
+        (planLine (tables (now (states .entry)) (now (owners .entry)) (now (helpers .entry))) (now (ticks .entry)) sender kind room) ⌝ }
 {
     let mut space = plan_space();
     let buffer = pieces::front(&mut space, room);
@@ -52,7 +55,8 @@ fn say_check(
     out: &mut [u8],
 ) -> usize
     ensures { λ r. ⌜ sheet (now (out .exit)) r ≡
-        pour (sheet (now (out .entry)) 0) (checkedLine (checkAt (tables (now (states .entry)) (now (owners .entry)) (now (helpers .entry))) (now (ticks .entry)) sender kind (now (plan .entry)))) ⌝ }
+        pour (sheet (now (out .entry)) 0)
+        (checkedLine (checkAt (tables (now (states .entry)) (now (owners .entry)) (now (helpers .entry))) (now (ticks .entry)) sender kind (now (plan .entry)))) ⌝ }
 {
     if checking::check_plan(states, owners, helpers, ticks, sender, kind, plan) {
         return printing::put_text(b"yes", out, 0);
@@ -60,7 +64,8 @@ fn say_check(
     printing::put_text(b"no", out, 0)
 }
 
-// Does one of the requests of a maintenance night, puts its line at the front of `out`, and answers the next place. The plan to check is in the scratch.
+// Does one of the requests of a maintenance night, puts its line at the front of `out`, and answers
+// the next place. The plan to check is in the scratch.
 pub fn plan_turn(
     request: Request,
     octets: &[u8],

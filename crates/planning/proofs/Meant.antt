@@ -1,4 +1,5 @@
--- Each message of the plan asks what is meant: it marks the row that it is for, names no circuit that may not be blocked, and takes 9 octets for each tick at the most.
+-- Each message of the plan asks what is meant: it marks the row that it is for, names no circuit
+-- that may not be blocked, and takes 9 octets for each tick at the most.
 use Prim.Native.Nat.{ℕ, _+_, _-_, _*_, _≤_, _<_}
 use mathlib.Core.Path.{_≡_, refl, _∙_, subst}
 use mathlib.Core.Bool.{Bool, true, false}

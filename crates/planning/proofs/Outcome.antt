@@ -101,7 +101,9 @@ module _ (T : Tables) (ticks : List ℕ) (sender kind : ℕ) where
     plan-fits : isStuck kind can (ticked ticks) ≡ false → length found ≤ 9 * tickCount (ticked ticks) 0 4096
     plan-fits e = plan-room kind can (ticked ticks) k (ticked-low ticks (s .for-ticks)) (unstuck-is kind can (ticked ticks) (ticked-low ticks (s .for-ticks)) e)
 
-  -- the decision, over all plans: with legal rows there is none exactly where some ticked circuit cannot be planned: for maintenance it is neither owned nor helped; for hardware it is not owned, or no neighbour is
+  -- the decision, over all plans: with legal rows there is none exactly where some ticked circuit
+  -- cannot be planned: for maintenance it is neither owned nor helped; for hardware it is not
+  -- owned, or no neighbour is
   pub no-plan-decided : length (T .states) ≡ 4096 → length (T .owners) ≡ 4096 → length (T .helpers) ≡ 4096 → length ticks ≡ 4096 → kind ≤ 1 → AllLegal (T .states)
       → NoPlan T ticks sender kind ↔ ((c : ℕ) × (ticked ticks c ≡ true) × (Plannable kind can c → ⊥))
   no-plan-decided p q h t k l =

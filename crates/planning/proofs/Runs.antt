@@ -1,4 +1,5 @@
--- The plan: where every ticked circuit can be planned it is good, and it has 9 octets for each tick at the most.
+-- The plan: where every ticked circuit can be planned it is good, and it has 9
+-- octets for each tick at the most.
 use Prim.Native.Nat.{ℕ, zero, suc, _+_, _-_, _*_, _≤_, _<_}
 use mathlib.Core.Path.{_≡_, refl, sym, _∙_, subst}
 use mathlib.Core.Bool.{Bool, true, false}

@@ -1,4 +1,5 @@
--- 25 in the paper's words, over all plans: for maintenance some ticked circuit is neither owned nor helped; for hardware one is not owned, or has no owned neighbour.
+-- 25 in the paper's words, over all plans: for maintenance some ticked circuit is neither owned nor
+-- helped; for hardware one is not owned, or has no owned neighbour.
 use Prim.Native.Nat.{ℕ, _+_, _-_, _≤_, _<_}
 use mathlib.Core.Path.{_≡_, refl}
 use mathlib.Core.Bool.{true}

@@ -39,7 +39,8 @@ pub record PlanReady (owners helpers ticks : List ℕ) (sender kind room : ℕ) 
 
 -- R66. the plan for the sender's ticked circuits
 abbrev pub planFor : List ℕ → List ℕ → List ℕ → ℕ → ℕ → List ℕ
-planFor owners helpers ticks sender kind = planOf kind (mayBlock kind owners helpers sender) (ticked ticks)
+planFor owners helpers ticks sender kind =
+    planOf kind (mayBlock kind owners helpers sender) (ticked ticks)
 
 -- the plan's octets, or the number
 unfoldable pub plannedIn : Tables → List ℕ → ℕ → ℕ → ℕ → Answer (ℕ × List ℕ)
@@ -47,9 +48,13 @@ plannedIn T ticks sender kind room =
     if sizedAll T ticks then
     (if ltb 1 kind then refused 14 0
     else (if isFound (firstIllegal (T .states) 0 4096) then refused 20 0
-    else (if isStuck kind (mayBlock kind (T .owners) (T .helpers) sender) (ticked ticks) then refused 25 0
+    else (if isStuck kind (mayBlock kind (T .owners) (T .helpers) sender) (ticked ticks)
+    then refused 25 0
     else (if ltb room (9 * tickCount (ticked ticks) 0 4096) then refused 13 0
-    else accepted (length (planFor (T .owners) (T .helpers) ticks sender kind), planFor (T .owners) (T .helpers) ticks sender kind)))))
+    else accepted (
+      length (planFor (T .owners) (T .helpers) ticks sender kind),
+      planFor (T .owners) (T .helpers) ticks sender kind,
+    )))))
     else refused 16 0
 
 -- the answer, with what the lent buffer holds afterwards
@@ -60,7 +65,8 @@ plannedOf T ticks sender kind buffer = done buffer (plannedIn T ticks sender kin
 abbrev pub NoPlan : Tables → List ℕ → ℕ → ℕ → Type 0
 NoPlan T ticks sender kind = (plan : List ℕ) → GoodPlan T ticks sender kind plan → ⊥
 
--- R67. what the planner may be refused for, in the paper's words and order: 25 exactly if no plan exists, and 13 under 9 octets for each ticked circuit
+-- R67. what the planner may be refused for, in the paper's words and order: 25 exactly if no plan
+-- exists, and 13 under 9 octets for each ticked circuit
 abbrev pub planFaults : Tables → List ℕ → ℕ → ℕ → ℕ → List Fault
 planFaults T ticks sender kind room =
     fault 16 0 (WrongTables T ⊎ (length ticks ≡ 4096 → ⊥))

@@ -1,4 +1,5 @@
--- The plan: from circuit 0 up, ticked circuits in a row, 32 at the most, as one CGB with every bit set.
+-- The plan: from circuit 0 up, ticked circuits in a row, 32 at the most, as
+-- one CGB with every bit set.
 -- A single one is BLO for maintenance; for hardware it is a CGB of range 1 with an owned neighbour.
 use Prim.Native.Nat.{ℕ, zero, suc, _+_, _-_, _/_, _%_, _^_}
 use mathlib.Core.Bool.{Bool}
@@ -54,7 +55,8 @@ paired can c = if nextWillDo can c then cgbStep c 1 1 (1 ∷ []) else cgbStep (c
 -- the message for n ticked circuits in a row from c on
 unfoldable pub stepFor : ℕ → (ℕ → Bool) → ℕ → ℕ → Step
 stepFor kind can c n =
-    if eqb n 1 then (if eqb kind 0 then bloStep c else paired can c) else cgbStep c kind (n - 1) (ones (width (n - 1)) n)
+    if eqb n 1 then (if eqb kind 0 then bloStep c else paired can c)
+    else cgbStep c kind (n - 1) (ones (width (n - 1)) n)
 
 -- from circuit c on; f + c is at least 4096
 unfoldable pub planFrom : ℕ → (ℕ → Bool) → (ℕ → Bool) → ℕ → ℕ → List Step

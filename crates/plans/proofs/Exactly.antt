@@ -1,4 +1,5 @@
--- The check is yes exactly for a plan whose messages a judge takes one by one, and whose marks add up.
+-- The check is yes exactly for a plan whose messages a judge takes one by
+-- one, and whose marks add up.
 use Prim.Native.Nat.{ℕ, zero, suc, _+_, _≤_, _<_}
 use mathlib.Core.Path.{_≡_, refl, sym, _∙_, ap, subst}
 use mathlib.Core.Bool.{Bool, true, false}

@@ -13,7 +13,8 @@ use Rattle.octets.specs.Answer.{Answer, accepted, refused, _then_}
 use Rattle.octets.proofs.Answer.{accepted-same}
 use Rattle.plans.specs.Frames.{framed}
 
--- the messages that octets are, or that the last of them is cut off; f is at least the count of octets
+-- the messages that octets are, or that the last of them is cut off; f is
+-- at least the count of octets
 unfoldable unframed : ℕ → List ℕ → Answer (List (List ℕ))
 unframed zero [] = accepted []
 unframed zero (n ∷ rest) = refused 0 0

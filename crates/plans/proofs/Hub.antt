@@ -1,4 +1,5 @@
--- What the hub accepts of a plan's messages: what they ask, where the sender may block every named circuit so.
+-- What the hub accepts of a plan's messages: what they ask, where the sender
+-- may block every named circuit so.
 use Prim.Native.Nat.{ℕ, _+_, _≤_}
 use mathlib.Core.Path.{_≡_, refl, sym, _∙_, ap, subst}
 use mathlib.Core.Bool.{Bool, true, false}
@@ -143,7 +144,8 @@ module _ (T : Tables) (sender : ℕ) where
       rw (eq-eqb _ _ p, eq-eqb _ _ q, eq-eqb _ _ h, e)
       (sym (permit-all T sender a r u s (planned-free kind (T .states) (a .act) (a .block) (a .circuit) f)))
 
-  -- where every row is legal the hub takes a plan's message exactly where the sender may block every named circuit so
+  -- where every row is legal the hub takes a plan's message exactly where the
+  -- sender may block every named circuit so
   pub hub-grants : length (T .states) ≡ 4096 → length (T .owners) ≡ 4096 → length (T .helpers) ≡ 4096 → AllLegal (T .states) → (kind : ℕ) → Grants (judgedOf T sender) kind (mayBlock kind (T .owners) (T .helpers) sender)
   hub-grants p q h legal kind = record {
     asks = judged-asks;

@@ -1,4 +1,5 @@
--- No simulation is needed: a plan is accepted in turn exactly where each of its messages is accepted at the given tables.
+-- No simulation is needed: a plan is accepted in turn exactly where each of its messages is
+-- accepted at the given tables.
 use Prim.Native.Nat.{ℕ, _+_, _≤_}
 use mathlib.Core.Path.{_≡_, refl, sym, _∙_, ap}
 use mathlib.Core.Bool.{Bool, true, false}

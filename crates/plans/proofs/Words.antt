@@ -1,4 +1,5 @@
--- What the check says in the plain cases: the empty plan, a plan cut off, a length octet 0; and the contract leaves no choice.
+-- What the check says in the plain cases: the empty plan, a plan cut off, a length octet 0; and the
+-- contract leaves no choice.
 use Prim.Native.Nat.{ℕ, suc, _≤_}
 use mathlib.Core.Path.{_≡_, refl, sym, _∙_, ap}
 use mathlib.Core.Bool.{Bool, true, false}

@@ -1,4 +1,5 @@
--- The check: along the plan, each message judged at the given tables, each marked circuit not seen before; at the end, the circuits seen are those ticked.
+-- The check: along the plan, each message judged at the given tables, each marked circuit not seen
+-- before; at the end, the circuits seen are those ticked.
 use Prim.Native.Nat.{ℕ, zero, suc, _+_, _-_}
 use mathlib.Core.Bool.{Bool, true, false}
 use mathlib.Core.List.{List, [], _∷_}

@@ -1,4 +1,5 @@
--- What the messages of a plan do: of which kind they are, and which circuits they mark. No algorithm.
+-- What the messages of a plan do: of which kind they are, and which
+-- circuits they mark. No algorithm.
 use Prim.Native.Nat.{ℕ, _+_, _-_, _≤_, _<_}
 use mathlib.Core.Path.{_≡_}
 use mathlib.Core.Bool.{Bool, true, false, not}
@@ -21,7 +22,8 @@ use Rattle.plans.specs.Frames.{framed, Each}
 abbrev pub ticked : List ℕ → ℕ → Bool
 ticked ticks c = not (eqb (octet ticks c) 0)
 
--- R64. whether an act, with its kind of block, is one for a plan of that kind: CGB of that kind, and BLO too for maintenance
+-- R64. whether an act, with its kind of block, is one for a plan of that kind: CGB of that kind,
+-- and BLO too for maintenance
 unfoldable pub planned : ℕ → Act → ℕ → Bool
 planned kind Seize block = false
 planned kind Release block = false
@@ -37,10 +39,13 @@ planned kind Query block = false
 abbrev pub fitsKind : ℕ → Ask → Bool
 fitsKind kind a = planned kind (a .act) (a .block)
 
--- whether a message marks the circuit: it names it, and its status bit is set; BLO has no status, and marks the circuit that it names
+-- whether a message marks the circuit: it names it, and its status bit is set; BLO has no status,
+-- and marks the circuit that it names
 unfoldable pub marksOf : List ℕ → Ask → ℕ → Bool
 marksOf m a c =
-    if leb (a .circuit) c then (if leb c (a .circuit + a .range) then markOf m (a .status) (c - a .circuit) else false)
+    if leb (a .circuit) c
+    then (if leb c (a .circuit + a .range) then markOf m (a .status) (c - a .circuit)
+    else false)
     else false
 
 -- a message, with what it asks
@@ -72,14 +77,19 @@ pub record JudgedPlan (judge : List ℕ → Answer Ask) (ticks : List ℕ) (kind
   pub each : Each (JudgedStep judge kind) steps
   pub once : (c : ℕ) → c ≤ 4095 → times steps c ≡ bit (ticked ticks c)
 
--- what is used of the hub. `can` says, for the asked kind, which circuits the sender may block so, their rows being legal
+-- what is used of the hub. `can` says, for the asked kind, which circuits the
+-- sender may block so, their rows being legal
 pub record Grants (judge : List ℕ → Answer Ask) (kind : ℕ) (can : ℕ → Bool) : Type 0 where
   -- what is accepted is what the message asks, and each named circuit may be blocked
   pub asks : (m : List ℕ) (a : Ask) → judge m ≡ accepted a → askOf m ≡ accepted a
-  pub rights : (m : List ℕ) (a : Ask) → judge m ≡ accepted a → fitsKind kind a ≡ true → (c : ℕ) → Named a c → can c ≡ true
+  pub rights : (m : List ℕ) (a : Ask) → judge m ≡ accepted a → fitsKind kind a ≡ true → (c : ℕ)
+      → Named a c → can c ≡ true
   -- and that is enough
-  pub takes : (m : List ℕ) (a : Ask) → askOf m ≡ accepted a → fitsKind kind a ≡ true → ((c : ℕ) → Named a c → can c ≡ true) → judge m ≡ accepted a
+  pub takes : (m : List ℕ) (a : Ask) → askOf m ≡ accepted a → fitsKind kind a ≡ true
+      → ((c : ℕ) → Named a c → can c ≡ true) → judge m ≡ accepted a
 
 -- a circuit that a plan of that kind can mark: for hardware a neighbour is named with it
 abbrev pub Plannable : ℕ → (ℕ → Bool) → ℕ → Type 0
-Plannable kind can c = (can c ≡ true) × ((kind ≡ 0) ⊎ (((c < 4095) × (can (c + 1) ≡ true)) ⊎ ((1 ≤ c) × (can (c - 1) ≡ true))))
+Plannable kind can c =
+    (can c ≡ true)
+    × ((kind ≡ 0) ⊎ (((c < 4095) × (can (c + 1) ≡ true)) ⊎ ((1 ≤ c) × (can (c - 1) ≡ true))))

@@ -1,5 +1,7 @@
--- What a good plan is: the hub accepts its messages in turn, each on the tables that those before it left, and their marks add up. No algorithm.
--- The totals of busy circuits change no answer of the hub (crate `board` proves it), so the three tables are all that matters.
+-- What a good plan is: the hub accepts its messages in turn, each on the tables that those before
+-- it left, and their marks add up. No algorithm.
+-- The totals of busy circuits change no answer of the hub (crate `board` proves it), so the three
+-- tables are all that matters.
 use Prim.Native.Nat.{ℕ, _≤_}
 use mathlib.Core.Path.{_≡_}
 use mathlib.Core.Bool.{Bool, true, false}
@@ -23,7 +25,8 @@ use Rattle.plans.specs.Check.{checkOf}
 abbrev pub room : List ℕ
 room = replicate 268 0
 
--- the hub, on these tables, accepts the message; it asks what is said, is of the asked kind, and its length is an octet
+-- the hub, on these tables, accepts the message; it asks what is said, is of the
+-- asked kind, and its length is an octet
 pub record AcceptedStep (T : Tables) (sender kind : ℕ) (s : Step) : Type 0 where
   pub count : ℕ
   pub answered : actOf T sender (s .message) room .answer ≡ accepted count
@@ -38,9 +41,11 @@ tablesAfter T sender m = tables (actOf T sender m room .states) (T .owners) (T .
 -- in turn: each on the tables that those before it left
 abbrev pub InTurn : Tables → ℕ → ℕ → List Step → Type 0
 InTurn T sender kind [] = Unit {0}
-InTurn T sender kind (s ∷ ss) = AcceptedStep T sender kind s × InTurn (tablesAfter T sender (s .message)) sender kind ss
+InTurn T sender kind (s ∷ ss) =
+    AcceptedStep T sender kind s × InTurn (tablesAfter T sender (s .message)) sender kind ss
 
--- R65. a good plan: messages one after the other, each after one length octet, which the hub accepts in turn; each ticked circuit is marked once, and no other
+-- R65. a good plan: messages one after the other, each after one length octet, which the hub
+-- accepts in turn; each ticked circuit is marked once, and no other
 pub record GoodPlan (T : Tables) (ticks : List ℕ) (sender kind : ℕ) (plan : List ℕ) : Type 0 where
   pub states-sized : length (T .states) ≡ 4096
   pub owners-sized : length (T .owners) ≡ 4096
@@ -56,10 +61,12 @@ pub record GoodPlan (T : Tables) (ticks : List ℕ) (sender kind : ℕ) (plan : 
 abbrev pub AllLegal : List ℕ → Type 0
 AllLegal states = (c : ℕ) → c ≤ 4095 → isLegal (octet states c) ≡ true
 
--- which circuits a plan of that kind may name: for maintenance those owned or helped, for hardware those owned
+-- which circuits a plan of that kind may name: for maintenance those owned or
+-- helped, for hardware those owned
 unfoldable pub mayBlock : ℕ → List ℕ → List ℕ → ℕ → ℕ → Bool
 mayBlock kind owners helpers sender c = if eqb kind 0 then hasRight owners helpers sender c else isMine owners sender c
 
 -- the check on the hub's tables
 unfoldable pub checkAt : Tables → List ℕ → ℕ → ℕ → List ℕ → Bool
-checkAt T ticks sender kind plan = if sized T then checkOf (judgedOf T sender) ticks kind plan else false
+checkAt T ticks sender kind plan =
+    if sized T then checkOf (judgedOf T sender) ticks kind plan else false

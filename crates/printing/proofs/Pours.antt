@@ -62,7 +62,8 @@ pour-fits octets at (c ∷ cs) h =
     let k : at + 1 + length cs ≤ length (set octets at c) = simp length-set (omega arith) in
     ap (λ (s : Sheet). pour s cs) (put-here octets at c (omega arith)) ∙ pour-fits (set octets at c) (at + 1) cs k ∙ rw (e, add-one)
 
--- a text that fits, put at the buffer's front: the place is how many octets it has, and they stand there
+-- a text that fits, put at the buffer's front: the place is how many octets
+-- it has, and they stand there
 pub pour-front : (octets cs : List ℕ) → length cs ≤ length octets → (pour (sheet octets 0) cs .at ≡ length cs) × (take (length cs) (pour (sheet octets 0) cs .octets) ≡ cs)
 pour-front octets cs h =
     let e = pour-fits octets 0 cs (omega arith) in

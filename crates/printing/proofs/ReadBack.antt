@@ -1,4 +1,5 @@
--- What is shown reads back: octets in hexadecimal digits as the same octets, a number in decimal digits as the same number.
+-- What is shown reads back: octets in hexadecimal digits as the same octets, a number in decimal
+-- digits as the same number.
 use Prim.Native.Nat.{ℕ, zero, suc, _+_, _*_, _/_, _%_, _^_, _<_, _≤_}
 use mathlib.Core.Path.{_≡_, refl, _∙_, ap}
 use mathlib.Core.Bool.{true}

@@ -1,4 +1,5 @@
--- A lent buffer that is filled from the left. What has no room is left out, and nothing past the place changes.
+-- A lent buffer that is filled from the left. What has no room is left out,
+-- and nothing past the place changes.
 use Prim.Native.Nat.{ℕ, _+_}
 use mathlib.Core.List.{List, [], _∷_}
 use lib.Dec.{ltb}
@@ -16,7 +17,8 @@ sheet octets at = record { octets = octets; at = at }
 
 -- one octet more, where there is room for it
 unfoldable pub put : Sheet → ℕ → Sheet
-put s c = if ltb (s .at) (length (s .octets)) then sheet (set (s .octets) (s .at) c) (s .at + 1) else s
+put s c =
+    if ltb (s .at) (length (s .octets)) then sheet (set (s .octets) (s .at) c) (s .at + 1) else s
 
 -- octets one after the other
 unfoldable pub pour : Sheet → List ℕ → Sheet

@@ -1,4 +1,5 @@
-// A line of an answer, put together in a lent buffer: texts, numbers in decimal digits, octets in hexadecimal ones.
+// A line of an answer, put together in a lent buffer: texts, numbers in decimal
+// digits, octets in hexadecimal ones.
 ghost use mathlib.Core.Path.{_≡_};
 ghost use Prim.Native.Nat.{_<_};
 ghost use Rattle.printing.specs.Sheet.{sheet, put, pour};
@@ -17,7 +18,8 @@ pub fn put_octet(octet: u8, out: &mut [u8], at: usize) -> usize
 
 // Puts a text, and answers the next place.
 pub fn put_text(text: &[u8], out: &mut [u8], at: usize) -> usize
-    ensures { λ r. ⌜ sheet (now (out .exit)) r ≡ pour (sheet (now (out .entry)) at) (now (text .entry)) ⌝ }
+    ensures { λ r. ⌜ sheet (now (out .exit)) r ≡
+        pour (sheet (now (out .entry)) at) (now (text .entry)) ⌝ }
 {
     let mut next = at;
     let mut i = 0;
@@ -28,9 +30,11 @@ pub fn put_text(text: &[u8], out: &mut [u8], at: usize) -> usize
     next
 }
 
-// Puts the last `places` decimal digits of a number, with no zeros before it, and answers the next place.
+// Puts the last `places` decimal digits of a number, with no zeros before
+// it, and answers the next place.
 fn put_digits(places: u8, number: usize, out: &mut [u8], at: usize) -> usize
-    ensures { λ r. ⌜ sheet (now (out .exit)) r ≡ pour (sheet (now (out .entry)) at) (decimalIn places number) ⌝ }
+    ensures { λ r. ⌜ sheet (now (out .exit)) r ≡
+        pour (sheet (now (out .entry)) at) (decimalIn places number) ⌝ }
 {
     if places == 0 {
         return at;
@@ -44,7 +48,8 @@ fn put_digits(places: u8, number: usize, out: &mut [u8], at: usize) -> usize
 
 // Puts a number in decimal digits, and answers the next place.
 pub fn put_number(number: usize, out: &mut [u8], at: usize) -> usize
-    ensures { λ r. ⌜ sheet (now (out .exit)) r ≡ pour (sheet (now (out .entry)) at) (decimalOf number) ⌝ }
+    ensures { λ r. ⌜ sheet (now (out .exit)) r ≡
+        pour (sheet (now (out .entry)) at) (decimalOf number) ⌝ }
 {
     put_digits(10, number, out, at)
 }
@@ -62,7 +67,8 @@ fn digit(n: u8) -> u8
 
 // Puts octets in hexadecimal digits, `-` for none, and answers the next place.
 pub fn put_octets(octets: &[u8], out: &mut [u8], at: usize) -> usize
-    ensures { λ r. ⌜ sheet (now (out .exit)) r ≡ pour (sheet (now (out .entry)) at) (hexOf (now (octets .entry))) ⌝ }
+    ensures { λ r. ⌜ sheet (now (out .exit)) r ≡
+        pour (sheet (now (out .entry)) at) (hexOf (now (octets .entry))) ⌝ }
 {
     if octets.len() == 0 {
         return put_octet(b'-', out, at);

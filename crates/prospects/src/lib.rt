@@ -18,9 +18,11 @@ fn mine(table: &[u8], sender: u32, circuit: usize) -> bool
     table[circuit] as u32 == sender
 }
 
-// Whether a plan of that kind may name the circuit: for maintenance one owned or helped, for hardware one owned.
+// Whether a plan of that kind may name the circuit: for maintenance one owned
+// or helped, for hardware one owned.
 fn may_block(owners: &[u8], helpers: &[u8], sender: u32, kind: u32, circuit: usize) -> bool
-    ensures { λ r. ⌜ r ≡ mayBlock kind (now (owners .entry)) (now (helpers .entry)) sender circuit ⌝ }
+    ensures { λ r. ⌜ r ≡
+        mayBlock kind (now (owners .entry)) (now (helpers .entry)) sender circuit ⌝ }
 {
     if kind != 0 {
         return mine(owners, sender, circuit);
@@ -31,9 +33,11 @@ fn may_block(owners: &[u8], helpers: &[u8], sender: u32, kind: u32, circuit: usi
     mine(helpers, sender, circuit)
 }
 
-// Whether the next circuit will do as the neighbour: there is one, and a plan of that kind may name it.
+// Whether the next circuit will do as the neighbour: there is one, and a
+// plan of that kind may name it.
 pub fn next_will_do(owners: &[u8], helpers: &[u8], sender: u32, kind: u32, c: usize) -> bool
-    ensures { λ r. ⌜ r ≡ nextWillDo (mayBlock kind (now (owners .entry)) (now (helpers .entry)) sender) c ⌝ }
+    ensures { λ r. ⌜ r ≡
+        nextWillDo (mayBlock kind (now (owners .entry)) (now (helpers .entry)) sender) c ⌝ }
 {
     if c < 4095 {
         return may_block(owners, helpers, sender, kind, c + 1);
@@ -43,7 +47,8 @@ pub fn next_will_do(owners: &[u8], helpers: &[u8], sender: u32, kind: u32, c: us
 
 // Whether a plan of that kind can mark the circuit.
 fn plannable(owners: &[u8], helpers: &[u8], sender: u32, kind: u32, c: usize) -> bool
-    ensures { λ r. ⌜ r ≡ canPlan kind (mayBlock kind (now (owners .entry)) (now (helpers .entry)) sender) c ⌝ }
+    ensures { λ r. ⌜ r ≡
+        canPlan kind (mayBlock kind (now (owners .entry)) (now (helpers .entry)) sender) c ⌝ }
 {
     if !may_block(owners, helpers, sender, kind, c) {
         return false;
@@ -69,7 +74,9 @@ pub fn will_do(
     kind: u32,
     c: usize,
 ) -> bool
-    ensures { λ r. ⌜ r ≡ willDo kind (mayBlock kind (now (owners .entry)) (now (helpers .entry)) sender) (ticked (now (ticks .entry))) c ⌝ }
+    ensures { λ r. ⌜ r ≡
+        willDo kind (mayBlock kind (now (owners .entry)) (now (helpers .entry)) sender)
+        (ticked (now (ticks .entry))) c ⌝ }
 {
     if c >= ticks.len() {
         return true;

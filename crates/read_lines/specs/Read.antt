@@ -18,10 +18,12 @@ optionalWord false = said " optional no"
 
 -- fixed 5 variable 1 optional yes; 3 for a type that is not in the table
 unfoldable pub shapeLine : Row → List ℕ
-shapeLine (Has s) = counted "fixed " (s .fixed) ++ counted " variable " (s .vars) ++ optionalWord (s .opt)
+shapeLine (Has s) =
+    counted "fixed " (s .fixed) ++ counted " variable " (s .vars) ++ optionalWord (s .opt)
 shapeLine Unknown = refusal 3
 
--- fixed - first 03 second - optional -; a part that is not there, or is empty, is -, and the optional run is without its closing 0
+-- fixed - first 03 second - optional -; a part that is not there, or is empty, is -, and the
+-- optional run is without its closing 0
 unfoldable pub partsLine : List ℕ → Parts → List ℕ
 partsLine m p =
     shown " fixed " (partOf m (p .fixed))
@@ -31,5 +33,6 @@ partsLine m p =
 
 -- circuit 5 type 17, and its parts; or the refusal with its octet
 unfoldable pub readLine : List ℕ → Answer Message → List ℕ
-readLine m (accepted x) = counted "circuit " (x .circuit) ++ shown " type " (x .kind ∷ []) ++ partsLine m (x .parts)
+readLine m (accepted x) =
+    counted "circuit " (x .circuit) ++ shown " type " (x .kind ∷ []) ++ partsLine m (x .parts)
 readLine m (refused n at) = faultLine n at

@@ -1,4 +1,5 @@
-// The parts of a message, read by its shape row: each lies where its pointer says, and no octet belongs to two.
+// The parts of a message, read by its shape row: each lies where its pointer
+// says, and no octet belongs to two.
 // A refusal is a number of document 01 with the octet that it is about.
 ghost use mathlib.Core.Path.{_≡_};
 ghost use Prim.Native.Nat.{_+_, _≤_, _<_};
@@ -77,7 +78,8 @@ fn optional_at(octets: &[u8], p: usize, end: usize) -> Slot
     }
 }
 
-// The k-th of `vars` variable parameters, the first pointer at `at`: nothing where there are not that many.
+// The k-th of `vars` variable parameters, the first pointer at `at`: nothing
+// where there are not that many.
 fn variable_slot(octets: &[u8], at: usize, k: usize, vars: u8, end: usize) -> Slot
     requires { ⌜ (at + vars ≤ end) × (end ≤ length (now octets)) ⌝ }
     ensures { λ r. ⌜ slotTold r ≡ variableSlot (now (octets .entry)) at k vars end ⌝ }
@@ -134,7 +136,8 @@ fn container(octets: &[u8], width: u8, shape: Shape) -> Body
     }
 }
 
-// The parts of a message of a family whose header has that width, whose longest message has `most` octets, and which says `row` of its type.
+// The parts of a message of a family whose header has that width, whose longest message has `most`
+// octets, and which says `row` of its type.
 pub fn read_parts(octets: &[u8], width: u8, most: usize, row: Row) -> Body
     ensures { λ r. ⌜ bodyTold r ≡ partsOf (now (octets .entry)) width most row ⌝ }
 {

@@ -1,4 +1,5 @@
-// Values that a person types: a decimal of at most 15 digits, as the f64 nearest to it, or the 64 bits of one.
+// Values that a person types: a decimal of at most 15 digits, as the f64
+// nearest to it, or the 64 bits of one.
 ghost use mathlib.Core.Path.{_≡_};
 ghost use mathlib.Core.Bool.{false};
 ghost use Prim.Native.Nat.{_^_, _≤_, _<_};
@@ -114,7 +115,8 @@ fn of_pattern(bits: u64) -> f64
     f64::from_bits(bits)
 }
 
-// The f64 that a word stands for: `0x` and 16 hexadecimal digits, its bits; or a decimal, with `-` in front for one below zero.
+// The f64 that a word stands for: `0x` and 16 hexadecimal digits, its bits; or a decimal, with `-`
+// in front for one below zero.
 pub fn real_of(word: &[u8]) -> Real
     ensures { λ r. ⌜ r ≡ realOf (now (word .entry)) ⌝ }
 {

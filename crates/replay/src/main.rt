@@ -1,6 +1,8 @@
-// Replays a recorded day: a book on standard input, its lines on standard output once the input has ended. What a book is, what it comes to and what is said of it
+// Replays a recorded day: a book on standard input, its lines on standard output once the input has
+// ended. What a book is, what it comes to and what is said of it
 // is decided in the crates below; here octets are read, handed on and written.
-// Where standard input cannot be read, or the lines cannot be written, that is said on standard error, and to whoever waits at descriptor 3, since a program has no status of its own.
+// Where standard input cannot be read, or the lines cannot be written, that is said on standard
+// error, and to whoever waits at descriptor 3, since a program has no status of its own.
 use book::Place;
 use libc::STDERR_FILENO;
 use libc::STDIN_FILENO;
@@ -15,7 +17,8 @@ fn tell(fault: &[u8]) {
     io::write_all(STATUS_FILENO, b"1");
 }
 
-// Reads to the end and feeds what comes; answers where the book is then. A read that fails ends the input, and is told.
+// Reads to the end and feeds what comes; answers where the book is then. A read
+// that fails ends the input, and is told.
 fn read_all(
     place: Place,
     chunk: &mut [u8],

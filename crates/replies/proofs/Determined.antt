@@ -1,4 +1,5 @@
--- Any two answers that the contract of `reply` allows are equal, with the buffer afterwards; a refusal keeps the buffer, and is 13 exactly where there is no room.
+-- Any two answers that the contract of `reply` allows are equal, with the buffer afterwards; a
+-- refusal keeps the buffer, and is 13 exactly where there is no room.
 use Prim.Native.Nat.{ℕ, _<_}
 use mathlib.Core.Path.{_≡_}
 use mathlib.Core.Bool.{Bool}

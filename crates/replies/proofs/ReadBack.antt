@@ -1,4 +1,5 @@
--- Every message of an answer reads, in the compact form: it carries the circuit, its type is the one that answers, and it says its contents.
+-- Every message of an answer reads, in the compact form: it carries the circuit, its type is the
+-- one that answers, and it says its contents.
 use Prim.Native.Nat.{ℕ, suc, _+_, _/_, _%_, _≤_, _<_}
 use mathlib.Core.Path.{_≡_, refl, sym, _∙_, subst}
 use mathlib.Core.Bool.{Bool, true, false}
@@ -100,7 +101,8 @@ completion-reads circuit low true = (
 )
 completion-reads circuit low false = alone _ circuit _ (optional-formed circuit low RLC (omega arith) refl)
 
--- every message of an answer reads, with the circuit, its type and its contents, and is in the compact form; there are no other octets
+-- every message of an answer reads, with the circuit, its type and its contents, and is in the
+-- compact form; there are no other octets
 pub answer-reads : (act : Act) (circuit range block : ℕ) (group status : List ℕ) → circuit ≤ 4095 → range ≤ 255 → (act ≡ Query → range ≤ 31)
     → ReadInTurn (answerTo act circuit range block group status) circuit (messagesTo act range block group status)
 unfolding shapeOf

@@ -1,4 +1,5 @@
--- What an answer carries. The status, once over its width: r/8+1 octets, the message's bits 0 to r or the 8s of the rows, and spare bits 0. The circuit states: octet i is the state of row i.
+-- What an answer carries. The status, once over its width: r/8+1 octets, the message's bits 0 to r
+-- or the 8s of the rows, and spare bits 0. The circuit states: octet i is the state of row i.
 use Prim.Native.Nat.{ℕ, _+_, _*_, _/_, _%_, _^_, _≤_, _<_}
 use mathlib.Core.Path.{_≡_, sym, _∙_, ap}
 use mathlib.Core.Bool.{false}

@@ -35,7 +35,8 @@ locksFrom range group = tabulate (lockedOctet range group)
 abbrev pub statusLocked : ℕ → List ℕ → List ℕ
 statusLocked range group = locksFrom range group 0 (width range)
 
--- range and status as the one variable parameter: its pointer, its length octet, the range, then the r/8+1 status octets
+-- range and status as the one variable parameter: its pointer, its length octet,
+-- the range, then the r/8+1 status octets
 abbrev pub rangeAndStatus : ℕ → List ℕ → List ℕ
 rangeAndStatus range status = 1 ∷ (1 + width range) ∷ range ∷ status
 
@@ -43,11 +44,13 @@ rangeAndStatus range status = 1 ∷ (1 + width range) ∷ range ∷ status
 abbrev pub statesFrom : List ℕ → ℕ → ℕ → List ℕ
 statesFrom group = tabulate (λ i. circuitState (octet group i))
 
--- range and circuit states as the two variable parameters: their pointers, then the range after its length octet, and r+1 states after theirs (an octet: r is 31 at the most where CQM asks)
+-- range and circuit states as the two variable parameters: their pointers, then the range after its
+-- length octet, and r+1 states after theirs (an octet: r is 31 at the most where CQM asks)
 abbrev pub rangeAndStates : ℕ → List ℕ → List ℕ
 rangeAndStates range group = 2 ∷ 3 ∷ 1 ∷ range ∷ ((range + 1) % 256) ∷ statesFrom group 0 (range + 1)
 
--- what answers RSC: RLC, which has the pointer 0, no optional part; where the circuit is locally blocked BLO stands before it
+-- what answers RSC: RLC, which has the pointer 0, no optional part; where the circuit is locally
+-- blocked BLO stands before it
 abbrev pub completion : ℕ → ℕ → List ℕ
 completion circuit row = if eqb (local row) 1 then headed circuit BLO (headed circuit RLC (0 ∷ [])) else headed circuit RLC (0 ∷ [])
 
@@ -55,19 +58,25 @@ completion circuit row = if eqb (local row) 1 then headed circuit BLO (headed ci
 abbrev pub noticeOf : ℕ → Bool → List ℕ
 noticeOf circuit set = headed circuit (if set then BLO else UBL) []
 
--- what answers an act: nothing answers IAM; RLC has the pointer 0, no optional part; BLA and UBA end with the type; GRA has range and status, by the rows; CGBA and CGUA have the indicator, then range and status, by the message; CQR has range and circuit states
+-- what answers an act: nothing answers IAM; RLC has the pointer 0, no optional part; BLA and UBA
+-- end with the type; GRA has range and status, by the rows; CGBA and CGUA have the indicator, then
+-- range and status, by the message; CQR has range and circuit states
 abbrev pub answerTo : Act → ℕ → ℕ → ℕ → List ℕ → List ℕ → List ℕ
 answerTo Seize circuit range block group status = []
 answerTo Release circuit range block group status = headed circuit RLC (0 ∷ [])
 answerTo Reset circuit range block group status = completion circuit (octet group 0)
 answerTo Block circuit range block group status = headed circuit BLA []
 answerTo Unblock circuit range block group status = headed circuit UBA []
-answerTo ResetGroup circuit range block group status = headed circuit GRA (rangeAndStatus range (statusLocked range group))
-answerTo BlockGroup circuit range block group status = headed circuit CGBA (block ∷ rangeAndStatus range (statusGiven range status))
-answerTo UnblockGroup circuit range block group status = headed circuit CGUA (block ∷ rangeAndStatus range (statusGiven range status))
+answerTo ResetGroup circuit range block group status =
+    headed circuit GRA (rangeAndStatus range (statusLocked range group))
+answerTo BlockGroup circuit range block group status =
+    headed circuit CGBA (block ∷ rangeAndStatus range (statusGiven range status))
+answerTo UnblockGroup circuit range block group status =
+    headed circuit CGUA (block ∷ rangeAndStatus range (statusGiven range status))
 answerTo Query circuit range block group status = headed circuit CQR (rangeAndStates range group)
 
--- an answer is sent: its octets fill the buffer's front and their count is given; or 13, and the buffer stays
+-- an answer is sent: its octets fill the buffer's front and their count is
+-- given; or 13, and the buffer stays
 abbrev pub sent : List ℕ → List ℕ → Done ℕ
 sent octets buffer = done buffer (roomFor buffer (length octets, octets))
 

@@ -1,4 +1,5 @@
-// What answers an act: the octets of messages in the compact form, with the circuit that the act named. Nothing here looks at owners, or changes a row.
+// What answers an act: the octets of messages in the compact form, with the circuit that the act
+// named. Nothing here looks at owners, or changes a row.
 ghost use mathlib.Core.Path.{_≡_};
 ghost use mathlib.Core.List.{[], _∷_};
 ghost use Prim.Native.Nat.{_+_, _≤_};
@@ -31,10 +32,12 @@ fn write_head(circuit: u16, kind: u8, answer: &mut [u8], at: usize)
     answer[at + 2] = kind;
 }
 
-// Writes range and status, the one variable parameter, from octet `at` on: its pointer, its length octet, the range, the status.
+// Writes range and status, the one variable parameter, from octet `at` on: its pointer, its length
+// octet, the range, the status.
 fn write_status(range: u8, status: &[u8], answer: &mut [u8], at: usize)
     requires { ⌜ at + 3 + width range ≤ length (now answer) ⌝ }
-    ensures { λ _. ⌜ now (answer .exit) ≡ sets (now (answer .entry)) at (rangeAndStatus range (statusGiven range (now (status .entry)))) ⌝ }
+    ensures { λ _. ⌜ now (answer .exit) ≡
+        sets (now (answer .entry)) at (rangeAndStatus range (statusGiven range (now (status .entry)))) ⌝ }
 {
     let width = range / 8 + 1;
     answer[at] = 1;
@@ -47,10 +50,12 @@ fn write_status(range: u8, status: &[u8], answer: &mut [u8], at: usize)
     }
 }
 
-// Writes range and status from octet 3 on, as GRA has them: a 1 for each circuit of the group that is locally blocked.
+// Writes range and status from octet 3 on, as GRA has them: a 1 for each
+// circuit of the group that is locally blocked.
 fn write_locks(range: u8, group: &[u8], answer: &mut [u8])
     requires { ⌜ 6 + width range ≤ length (now answer) ⌝ }
-    ensures { λ _. ⌜ now (answer .exit) ≡ sets (now (answer .entry)) 3 (rangeAndStatus range (statusLocked range (now (group .entry)))) ⌝ }
+    ensures { λ _. ⌜ now (answer .exit) ≡
+        sets (now (answer .entry)) 3 (rangeAndStatus range (statusLocked range (now (group .entry)))) ⌝ }
 {
     let width = range / 8 + 1;
     answer[3] = 1;
@@ -63,10 +68,12 @@ fn write_locks(range: u8, group: &[u8], answer: &mut [u8])
     }
 }
 
-// Writes range and circuit states, the two variable parameters, from octet 3 on: their pointers, then each with its length octet.
+// Writes range and circuit states, the two variable parameters, from octet 3 on: their pointers,
+// then each with its length octet.
 fn write_states(range: u8, group: &[u8], answer: &mut [u8])
     requires { ⌜ 9 + range ≤ length (now answer) ⌝ }
-    ensures { λ _. ⌜ now (answer .exit) ≡ sets (now (answer .entry)) 3 (rangeAndStates range (now (group .entry))) ⌝ }
+    ensures { λ _. ⌜ now (answer .exit) ≡
+        sets (now (answer .entry)) 3 (rangeAndStates range (now (group .entry))) ⌝ }
 {
     let count = range as usize + 1;
     answer[3] = 2;
@@ -83,7 +90,8 @@ fn write_states(range: u8, group: &[u8], answer: &mut [u8])
 
 // BLA, UBA: the circuit and the type alone.
 fn answer_plain(circuit: u16, kind: u8, answer: &mut [u8]) -> Written
-    ensures { λ r. ⌜ leaving (writtenTold r) (now (answer .exit)) ≡ sent (headed circuit kind []) (now (answer .entry)) ⌝ }
+    ensures { λ r. ⌜ leaving (writtenTold r) (now (answer .exit)) ≡
+        sent (headed circuit kind []) (now (answer .entry)) ⌝ }
 {
     if answer.len() < 3 {
         return Written::Refused(13, 0);
@@ -94,7 +102,8 @@ fn answer_plain(circuit: u16, kind: u8, answer: &mut [u8]) -> Written
 
 // RLC: the pointer 0, no optional part.
 fn answer_complete(circuit: u16, answer: &mut [u8]) -> Written
-    ensures { λ r. ⌜ leaving (writtenTold r) (now (answer .exit)) ≡ sent (headed circuit RLC (0 ∷ [])) (now (answer .entry)) ⌝ }
+    ensures { λ r. ⌜ leaving (writtenTold r) (now (answer .exit)) ≡
+        sent (headed circuit RLC (0 ∷ [])) (now (answer .entry)) ⌝ }
 {
     if answer.len() < 4 {
         return Written::Refused(13, 0);
@@ -106,7 +115,8 @@ fn answer_complete(circuit: u16, answer: &mut [u8]) -> Written
 
 // BLO and then RLC, one after the other.
 fn answer_locked(circuit: u16, answer: &mut [u8]) -> Written
-    ensures { λ r. ⌜ leaving (writtenTold r) (now (answer .exit)) ≡ sent (headed circuit BLO (headed circuit RLC (0 ∷ []))) (now (answer .entry)) ⌝ }
+    ensures { λ r. ⌜ leaving (writtenTold r) (now (answer .exit)) ≡
+        sent (headed circuit BLO (headed circuit RLC (0 ∷ []))) (now (answer .entry)) ⌝ }
 {
     if answer.len() < 7 {
         return Written::Refused(13, 0);
@@ -119,7 +129,8 @@ fn answer_locked(circuit: u16, answer: &mut [u8]) -> Written
 
 // What answers RSC: RLC, and BLO before it where the circuit's row says that it is locally blocked.
 fn answer_clear(circuit: u16, row: u8, answer: &mut [u8]) -> Written
-    ensures { λ r. ⌜ leaving (writtenTold r) (now (answer .exit)) ≡ sent (completion circuit row) (now (answer .entry)) ⌝ }
+    ensures { λ r. ⌜ leaving (writtenTold r) (now (answer .exit)) ≡
+        sent (completion circuit row) (now (answer .entry)) ⌝ }
 {
     if row / 8 % 2 == 1 {
         return answer_locked(circuit, answer);
@@ -129,7 +140,9 @@ fn answer_clear(circuit: u16, row: u8, answer: &mut [u8]) -> Written
 
 // GRA: range and status, from the rows of the group.
 fn answer_reset(circuit: u16, range: u8, group: &[u8], answer: &mut [u8]) -> Written
-    ensures { λ r. ⌜ leaving (writtenTold r) (now (answer .exit)) ≡ sent (headed circuit GRA (rangeAndStatus range (statusLocked range (now (group .entry))))) (now (answer .entry)) ⌝ }
+    ensures { λ r. ⌜ leaving (writtenTold r) (now (answer .exit)) ≡
+        sent (headed circuit GRA (rangeAndStatus range (statusLocked range (now (group .entry)))))
+        (now (answer .entry)) ⌝ }
 {
     let size = 7 + (range / 8) as usize;
     if answer.len() < size {
@@ -149,7 +162,8 @@ fn answer_group(
     status: &[u8],
     answer: &mut [u8],
 ) -> Written
-    ensures { λ r. ⌜ leaving (writtenTold r) (now (answer .exit)) ≡ sent (headed circuit kind (block ∷ rangeAndStatus range (statusGiven range (now (status .entry))))) (now (answer .entry)) ⌝ }
+    ensures { λ r. ⌜ leaving (writtenTold r) (now (answer .exit)) ≡
+        sent (headed circuit kind (block ∷ rangeAndStatus range (statusGiven range (now (status .entry))))) (now (answer .entry)) ⌝ }
 {
     let size = 8 + (range / 8) as usize;
     if answer.len() < size {
@@ -163,7 +177,9 @@ fn answer_group(
 
 // CQR: range and circuit states.
 fn answer_query(circuit: u16, range: u8, group: &[u8], answer: &mut [u8]) -> Written
-    ensures { λ r. ⌜ leaving (writtenTold r) (now (answer .exit)) ≡ sent (headed circuit CQR (rangeAndStates range (now (group .entry)))) (now (answer .entry)) ⌝ }
+    ensures { λ r. ⌜ leaving (writtenTold r) (now (answer .exit)) ≡
+        sent (headed circuit CQR (rangeAndStates range (now (group .entry))))
+        (now (answer .entry)) ⌝ }
 {
     let size = 9 + range as usize;
     if answer.len() < size {
@@ -174,8 +190,11 @@ fn answer_query(circuit: u16, range: u8, group: &[u8], answer: &mut [u8]) -> Wri
     Written::Octets(size)
 }
 
-// Writes what answers an act on circuits `circuit` to `circuit + range`: its octets fill the front of `answer`, the rest of it is kept, and their count is given; or 13, and all of `answer` is kept.
-// `group` has the rows of these circuits as they are before the act, and `status` the status octets of the message, none where it has none.
+// Writes what answers an act on circuits `circuit` to `circuit + range`: its octets
+// fill the front of `answer`, the rest of it is kept, and their count is given; or
+// 13, and all of `answer` is kept.
+// `group` has the rows of these circuits as they are before the act, and `status` the status octets
+// of the message, none where it has none.
 pub fn reply(
     act: Act,
     circuit: u16,
@@ -185,7 +204,9 @@ pub fn reply(
     status: &[u8],
     answer: &mut [u8],
 ) -> Written
-    ensures { λ r. ⌜ leaving (writtenTold r) (now (answer .exit)) ≡ sent (answerTo act circuit range block (now (group .entry)) (now (status .entry))) (now (answer .entry)) ⌝ }
+    ensures { λ r. ⌜ leaving (writtenTold r) (now (answer .exit)) ≡
+        sent (answerTo act circuit range block (now (group .entry)) (now (status .entry)))
+        (now (answer .entry)) ⌝ }
 {
     match act {
         Act::Seize => Written::Octets(0),
@@ -200,9 +221,11 @@ pub fn reply(
     }
 }
 
-// Writes what the desk has to send where it sets its own block, BLO, or clears it, UBL: three octets at the front of `answer`, the rest of it is kept; or 13, and all of `answer` is kept.
+// Writes what the desk has to send where it sets its own block, BLO, or clears it, UBL: three
+// octets at the front of `answer`, the rest of it is kept; or 13, and all of `answer` is kept.
 pub fn notice(circuit: u16, set: bool, answer: &mut [u8]) -> Written
-    ensures { λ r. ⌜ leaving (writtenTold r) (now (answer .exit)) ≡ sent (noticeOf circuit set) (now (answer .entry)) ⌝ }
+    ensures { λ r. ⌜ leaving (writtenTold r) (now (answer .exit)) ≡
+        sent (noticeOf circuit set) (now (answer .entry)) ⌝ }
 {
     if set {
         return answer_plain(circuit, BLO, answer);

@@ -106,7 +106,8 @@ number-enters : (k : Kind) (before : ℕ) (word : List ℕ) (next most : ℕ) (l
 number-enters k before word next most left (Is v) e p = inr (v, refl, e ∙ ap (λ (f : Field). found (saidAt left f)) (sym (p v)), ap (λ (f : Field). f .from) (p v), omega (arith, ap (λ (f : Field). f .count) (p v)))
 number-enters k before word next most left Not e p = inl (e, refl)
 
--- a field puts half as many octets as its word has; a word that is kept as it is typed, up to nine more
+-- a field puts half as many octets as its word has; a word that is kept as
+-- it is typed, up to nine more
 enters : (k : Kind) (before : ℕ) (word scratch : List ℕ) (next : ℕ) → next + length word / 2 + 9 ≤ length scratch → Enters k before word next (length word / 2 + 9) (entered k before word scratch next)
 enters (aNumber most) before word scratch next h = number-enters (aNumber most) before word next _ scratch (numberOf most word) refl (λ v. refl)
 enters (aLast most) before word scratch next h = number-enters (aLast most) before word next _ scratch (notBelow before (numberOf most word)) refl (λ v. refl)
@@ -168,7 +169,8 @@ told-leading : (s : List ℕ) (f : Field) (x : Found (List Field)) → told s (l
 told-leading s f (found fs) = refl
 told-leading s f lost = refl
 
--- along the line the fields say what the words left say, the scratch stays before `next`, and it keeps its length
+-- along the line the fields say what the words left say, the scratch stays
+-- before `next`, and it keeps its length
 abbrev Says : List Kind → ℕ → List ℕ → ℕ → ℕ → List ℕ → Along → Type 0
 Says ks before line at next scratch a = (told (a .left) (a .fit) ≡ wordsSay ks before (restAt line at)) × (take next (a .left) ≡ take next scratch) × (length (a .left) ≡ length scratch)
 

@@ -1,4 +1,5 @@
--- Wrong programs, each refuted on one line: what it takes is not what the definition says, which stands here.
+-- Wrong programs, each refuted on one line: what it takes is not what the
+-- definition says, which stands here.
 use mathlib.Core.Path.{_≡_, refl}
 use mathlib.Core.List.{[], _∷_}
 use Rattle.words.specs.Said.{said}

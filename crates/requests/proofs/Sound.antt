@@ -185,7 +185,8 @@ short-said most pad p (c ∷ cs) n before ws l e =
     more g gs h r zero = h
     more g gs h r (suc i) = r i
 
--- what is asked has no field with more octets than it may: a plan's in `check`, and 1024 in every other request
+-- what is asked has no field with more octets than it may: a plan's in
+-- `check`, and 1024 in every other request
 abbrev pub Short : Asked → Type 0
 Short (asks which gs) = (i : ℕ) → length (octetsAt gs i) ≤ octetsIn (eqb which CHECK)
 Short nothing = Unit {0}

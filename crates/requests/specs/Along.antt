@@ -1,4 +1,6 @@
--- What a line asks, along the line. Words stand apart by one space: a field is the word after the space at octet `at`, at which the word before ends. The octets that its fields stand for are put into a lent scratch, one field after the other.
+-- What a line asks, along the line. Words stand apart by one space: a field is the word after the
+-- space at octet `at`, at which the word before ends. The octets that its fields stand for are put
+-- into a lent scratch, one field after the other.
 use Prim.Native.Nat.{ℕ, suc, _+_, _-_}
 use mathlib.Core.List.{List, [], _∷_, _++_, map}
 use lib.Dec.{ltb, leb, eqb}
@@ -42,17 +44,21 @@ abbrev pub going : Number → List ℕ → (ℕ → List ℕ → Along) → Alon
 going (Is v) left rest = rest v left
 going Not left rest = along lost left
 
--- the fields of a line after the word that ends at `at`, which stands for the number `before`: one for each kind, and the last ends the line
+-- the fields of a line after the word that ends at `at`, which stands for the number `before`: one
+-- for each kind, and the last ends the line
 unfoldable pub fieldsOf : List Kind → ℕ → List ℕ → ℕ → List ℕ → ℕ → Along
-fieldsOf [] before line at scratch next = along (if eqb at (length line) then found [] else lost) scratch
+fieldsOf [] before line at scratch next =
+    along (if eqb at (length line) then found [] else lost) scratch
 fieldsOf (k ∷ ks) before line at scratch next =
     if leb (length line) at then along lost scratch
-    else going (entered k before (wordAt line at) scratch next .count) (entered k before (wordAt line at) scratch next .left)
+    else going (entered k before (wordAt line at) scratch next .count)
+    (entered k before (wordAt line at) scratch next .left)
     (λ v left. heading (placed k v next) (fieldsOf ks (placed k v next .value) line (wordEnd line (at + 1)) left (next + placed k v next .count)))
 
 -- a row with its fields in an array of eight
 abbrev pub request : ℕ → List Field → Request
-request which fs = record { which = which; fields = fs ++ replicate (fieldsMost - length fs) noField }
+request which fs =
+    record { which = which; fields = fs ++ replicate (fieldsMost - length fs) noField }
 
 -- a line that asks nothing
 abbrev pub bad : Request
@@ -76,16 +82,22 @@ abbrev pub tried : ℕ → Found (List Field) → List ℕ → (List ℕ → Ask
 tried which (found fs) left rest = taken (request which fs) left
 tried which lost left rest = rest left
 
--- the first form, from row `which` on, whose word is the line's first, which ends at `at`, and whose fields are those of the line
+-- the first form, from row `which` on, whose word is the line's first, which ends at `at`, and
+-- whose fields are those of the line
 unfoldable pub firstForm : List Form → ℕ → List ℕ → ℕ → List ℕ → Asking
 firstForm [] which line at scratch = taken bad scratch
 firstForm (f ∷ fs) which line at scratch =
-    if same (take at line) (f .word) then tried which (fieldsOf (kindsOf f) 0 line at scratch 0 .fit) (fieldsOf (kindsOf f) 0 line at scratch 0 .left) (λ left. firstForm fs (suc which) line at left)
+    if same (take at line) (f .word)
+    then tried which (fieldsOf (kindsOf f) 0 line at scratch 0 .fit)
+    (fieldsOf (kindsOf f) 0 line at scratch 0 .left)
+    (λ left. firstForm fs (suc which) line at left)
     else firstForm fs (suc which) line at scratch
 
 -- what a line asks; one that is too long asks nothing
 unfoldable pub requestOf : List ℕ → List ℕ → Asking
-requestOf line scratch = if ltb lineMost (length line) then taken bad scratch else firstForm forms 0 line (wordEnd line 0) scratch
+requestOf line scratch =
+    if ltb lineMost (length line) then taken bad scratch
+    else firstForm forms 0 line (wordEnd line 0) scratch
 
 -- what a field says, with its octets in the scratch
 abbrev pub saidAt : List ℕ → Field → FieldSays
@@ -97,4 +109,6 @@ saidIn scratch fs = map (saidAt scratch) fs
 
 -- what is asked by a request and the scratch
 abbrev pub saysOf : Asking → Asked
-saysOf t = if eqb (t .request .which) BAD then nothing else asks (t .request .which) (saidIn (t .left) (t .request .fields))
+saysOf t =
+    if eqb (t .request .which) BAD then nothing
+    else asks (t .request .which) (saidIn (t .left) (t .request .fields))

@@ -1,4 +1,6 @@
--- What a line asks, by its words, as the manual has it: a request's word, and a word for each field of its form. `Along` says the same by places of the line, and the two agree (`request-says` of proofs/Agree.antt).
+-- What a line asks, by its words, as the manual has it: a request's word, and a word
+-- for each field of its form. `Along` says the same by places of the line, and the two
+-- agree (`request-says` of proofs/Agree.antt).
 use Prim.Native.Nat.{ℕ, suc, _-_, _%_, _≤_}
 use mathlib.Core.Path.{_≡_}
 use mathlib.Core.List.{List, [], _∷_, _++_}
@@ -23,7 +25,8 @@ unfoldable pub lettered : ℕ → List (List ℕ) → List (List ℕ)
 lettered c [] = (c ∷ []) ∷ []
 lettered c (w ∷ ws) = (c ∷ w) ∷ ws
 
--- the words of a line: each space ends one and begins the next, so that two spaces have an empty word between them, and a space at an end has one beyond it
+-- the words of a line: each space ends one and begins the next, so that two spaces have an empty
+-- word between them, and a space at an end has one beyond it
 unfoldable pub wordsOf : List ℕ → List (List ℕ)
 wordsOf [] = [] ∷ []
 wordsOf (c ∷ cs) = if eqb c 32 then [] ∷ wordsOf cs else lettered c (wordsOf cs)
@@ -33,7 +36,8 @@ unfoldable pub wordsSay : List Kind → ℕ → List (List ℕ) → Found (List 
 wordsSay [] before [] = found []
 wordsSay [] before (w ∷ ws) = lost
 wordsSay (k ∷ ks) before [] = lost
-wordsSay (k ∷ ks) before (w ∷ ws) = onward (meaning k before w) (λ g. leading g (wordsSay ks (g .value) ws))
+wordsSay (k ∷ ks) before (w ∷ ws) =
+    onward (meaning k before w) (λ g. leading g (wordsSay ks (g .value) ws))
 
 -- what is asked: a row, and what its fields say, with fields that say nothing up to eight
 pub data Asked : Type 0 where
@@ -48,7 +52,8 @@ asking which gs = asks which (gs ++ replicate (fieldsMost - length gs) unsaid)
 unfoldable pub askedBy : List Form → ℕ → List ℕ → List (List ℕ) → Asked
 askedBy [] which name words = nothing
 askedBy (f ∷ fs) which name words =
-    if same name (f .word) then orElse (wordsSay (kindsOf f) 0 words) (asking which) (askedBy fs (suc which) name words)
+    if same name (f .word)
+    then orElse (wordsSay (kindsOf f) 0 words) (asking which) (askedBy fs (suc which) name words)
     else askedBy fs (suc which) name words
 
 -- what words ask by the table: the first is the request's name
@@ -83,7 +88,8 @@ Keeps aWord before g = length (g .octets) ≤ typedMost
 -- what the fields from field i on keep to
 abbrev pub Kept : List Kind → ℕ → List FieldSays → ℕ → Type 0
 Kept [] before gs i = Unit {0}
-Kept (k ∷ ks) before gs i = Keeps k before (getD gs i unsaid) × Kept ks (getD gs i unsaid .value) gs (suc i)
+Kept (k ∷ ks) before gs i =
+    Keeps k before (getD gs i unsaid) × Kept ks (getD gs i unsaid .value) gs (suc i)
 
 -- what every request keeps to, by its row's kinds
 abbrev pub SoundRequest : Asked → Type 0

@@ -1,4 +1,5 @@
-// Reading a message of any family and writing it again, over the width of the header, the longest message and the shape row.
+// Reading a message of any family and writing it again, over the width of the header, the longest
+// message and the shape row.
 ghost use mathlib.Core.Path.{_≡_};
 ghost use Prim.Native.Nat.{_≤_};
 ghost use lib.ListN.{length};
@@ -15,9 +16,12 @@ use parts::Body;
 use parts::Parts;
 use parts::Span;
 
-// Reads a message of a family whose header has that width, whose longest message has `most` octets, and whose table says `row` of the message's type;
-// and writes again what it says, with that header, in the compact form: fills the front of `out` and keeps the rest, and answers how many octets were written.
-// Refused with the reader's numbers and octets, then 12, then 2 where a header that is wider than said makes it too long, then 13, and then `out` holds what it held.
+// Reads a message of a family whose header has that width, whose longest message has `most` octets,
+// and whose table says `row` of the message's type;
+// and writes again what it says, with that header, in the compact form: fills the front of `out`
+// and keeps the rest, and answers how many octets were written.
+// Refused with the reader's numbers and octets, then 12, then 2 where a header that is wider than
+// said makes it too long, then 13, and then `out` holds what it held.
 pub fn rewrite(
     message: &[u8],
     width: u8,
@@ -26,7 +30,8 @@ pub fn rewrite(
     head: &[u8],
     out: &mut [u8],
 ) -> Written
-    ensures { λ r. ⌜ leaving (writtenTold r) (now (out .exit)) ≡ rewriteOf (now (message .entry)) width most row (now (head .entry)) (now (out .entry)) ⌝ }
+    ensures { λ r. ⌜ leaving (writtenTold r) (now (out .exit)) ≡
+        rewriteOf (now (message .entry)) width most row (now (head .entry)) (now (out .entry)) ⌝ }
 {
     match reading::read_parts(message, width, most as usize, row) {
         Body::Broken(n, at) => Written::Refused(n, at),
@@ -48,7 +53,9 @@ fn again(
     out: &mut [u8],
 ) -> Written
     requires { ⌜ partsOf (now message) width most (Row.Has shape) ≡ accepted parts ⌝ }
-    ensures { λ r. ⌜ leaving (writtenTold r) (now (out .exit)) ≡ rewriteOf (now (message .entry)) width most (Row.Has shape) (now (head .entry)) (now (out .entry)) ⌝ }
+    ensures { λ r. ⌜ leaving (writtenTold r) (now (out .exit)) ≡
+        rewriteOf (now (message .entry)) width most (Row.Has shape) (now (head .entry))
+        (now (out .entry)) ⌝ }
 {
     let kind = heads::kind_at(message, width);
     let fixed = part_of(message, parts.fixed);

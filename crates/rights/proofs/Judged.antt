@@ -1,4 +1,5 @@
--- Of what a message asks the number is the first fault in the paper's order, and it is permitted exactly where there is none.
+-- Of what a message asks the number is the first fault in the paper's order, and it is permitted
+-- exactly where there is none.
 use Prim.Native.Nat.{ℕ, _+_}
 use mathlib.Core.Path.{_≡_, refl, sym, _∙_, ap, subst}
 use mathlib.Core.Bool.{Bool, true, false, not}

@@ -129,7 +129,8 @@ module _ (good : ℕ → Bool) where
         go (At c) m h = absurd (true-false {t = true} refl h)
         go Nowhere m h = m
 
--- the search for a foreign circuit ends at the first on which the sender has no right: it has none there, and has one on all before it
+-- the search for a foreign circuit ends at the first on which the sender has no right: it has none
+-- there, and has one on all before it
 pub first-foreign-exactly : (owners helpers : List ℕ) (sender circuit n c : ℕ) → (firstForeign owners helpers sender circuit n ≡ At c) ↔ IsFirst (hasRight owners helpers sender) circuit n c
 first-foreign-exactly owners helpers sender circuit n c = search-exactly (hasRight owners helpers sender) circuit n c
 

@@ -1,4 +1,5 @@
--- One step of a search, as the proof of its loop cites it. Each count is an argument with an equation, which `omega` proves at a call.
+-- One step of a search, as the proof of its loop cites it. Each count is an argument with an
+-- equation, which `omega` proves at a call.
 use Prim.Native.Nat.{ℕ, zero, suc, _+_, _<_}
 use mathlib.Core.Path.{_≡_}
 use mathlib.Core.Bool.{Bool, true, false}

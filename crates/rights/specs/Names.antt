@@ -21,6 +21,7 @@ HasRight T sender circuit = Mine (T .owners) sender circuit ⊎ Mine (T .helpers
 abbrev pub Named : Ask → ℕ → Type 0
 Named a circuit = (a .circuit ≤ circuit) × (circuit ≤ a .circuit + a .range)
 
--- a message names the circuits of what it asks; one that asks nothing, because it is refused before 19 is reached, names none
+-- a message names the circuits of what it asks; one that asks nothing, because it is refused before
+-- 19 is reached, names none
 abbrev pub Names : List ℕ → ℕ → Type 0
 Names m circuit = (a : Ask) × (askOf m ≡ accepted a) × Named a circuit

@@ -30,7 +30,9 @@ isUnhelpable T sender a =
     if mayHelp (a .act) (a .block) then false
     else isFound (firstUnowned (T .owners) sender (a .circuit) (a .range + 1))
 
--- 19 where the sender has no right on a named circuit, 22 where it only helps one and a helper may not do the act, 20 where a named circuit's row is not legal, 21 for IAM on a circuit that is busy or blocked
+-- 19 where the sender has no right on a named circuit, 22 where it only helps one and
+-- a helper may not do the act, 20 where a named circuit's row is not legal, 21 for
+-- IAM on a circuit that is busy or blocked
 unfoldable pub permittedOf : Tables → ℕ → Ask → Answer Ask
 permittedOf T sender a =
     if isFound (firstForeign (T .owners) (T .helpers) sender (a .circuit) (a .range + 1)) then refused 19 0
@@ -39,7 +41,8 @@ permittedOf T sender a =
     else if isTaken (T .states) (a .act) (a .circuit) then refused 21 0
     else accepted a
 
--- the same of whatever is lent: 16 where a table has not 4096 octets, 18 where the group passes circuit 4095
+-- the same of whatever is lent: 16 where a table has not 4096 octets, 18
+-- where the group passes circuit 4095
 unfoldable pub permittedIn : Tables → ℕ → Ask → Answer Ask
 permittedIn T sender a =
     if sized T then (if ltb 4095 (a .circuit + a .range) then refused 18 0 else permittedOf T sender a)

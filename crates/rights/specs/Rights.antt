@@ -12,7 +12,8 @@ use Rattle.rows.specs.Rows.{isLegal}
 use Rattle.rights.specs.declared.Search.{Search}
 use Rattle.rights.specs.declared.Search.the-variants.{At, Nowhere}
 
--- whether a table of owners, or of helpers, names the sender for the circuit: its octet is the sender, who is not 0
+-- whether a table of owners, or of helpers, names the sender for the circuit:
+-- its octet is the sender, who is not 0
 abbrev pub isMine : List ℕ → ℕ → ℕ → Bool
 isMine table sender circuit = if eqb sender 0 then false else eqb (octet table circuit) sender
 

@@ -6,7 +6,8 @@ use lib.Dec.{eqb}
 use lib.ListN.{length}
 use Rattle.octets.specs.Choice.{if_then_else_}
 
--- for each circuit one state octet, one ownership octet, and one octet that names its helper, 0 for none
+-- for each circuit one state octet, one ownership octet, and one octet that
+-- names its helper, 0 for none
 pub record Tables : Type 0 where
   pub states : List ℕ
   pub owners : List ℕ

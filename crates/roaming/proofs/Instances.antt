@@ -1,4 +1,5 @@
--- SCCP at the boundary: each way in which reading ends, that everything fits, that a refusal keeps what was lent, and what C can tell from the number alone.
+-- SCCP at the boundary: each way in which reading ends, that everything fits, that a refusal keeps
+-- what was lent, and what C can tell from the number alone.
 use Prim.Native.Nat.{ℕ, _+_, _*_, _≤_, _<_}
 use mathlib.Core.Path.{_≡_, refl, ap}
 use mathlib.Core.List.{List, [], _∷_}

@@ -11,7 +11,8 @@ use Rattle.sccp.specs.Read.{sccpReadOf}
 use Rattle.sccp.specs.Faults.{sccpFaults}
 use Rattle.boundary.specs.Boundary.{fixedStart, InSixteenBits, SmallParts}
 
--- type, then start and length of the fixed part, of the first, the second and the third contents, and of the optional run
+-- type, then start and length of the fixed part, of the first, the second and
+-- the third contents, and of the optional run
 abbrev pub sccpValuesOf : Message → List ℕ
 sccpValuesOf x =
     x .kind

@@ -1,5 +1,6 @@
 // SCCP for C and Rust: reading and writing. With `llachurep` and its like they are one library.
-// They are a crate of their own so that its object has one reader and one writer of parts, which the compiler puts where they are called.
+// They are a crate of their own so that its object has one reader and one writer of parts, which
+// the compiler puts where they are called.
 ghost use mathlib.Core.Path.{_≡_};
 ghost use Prim.Native.Nat.{_≤_};
 ghost use lib.ListN.{length};
@@ -54,10 +55,13 @@ fn put_sccp_values(x: Message, parts: &mut [u16])
     parts[10] = size_of(optional);
 }
 
-// Reads an SCCP message. Accepted: 11, and parts[0..11) are type, then start and length of the fixed part, of the first, the second and the third contents, and of the optional run, each 0, 0 where there is none. Refused with the reader's numbers and octets, then 13.
+// Reads an SCCP message. Accepted: 11, and parts[0..11) are type, then start and length of the
+// fixed part, of the first, the second and the third contents, and of the optional run, each 0, 0
+// where there is none. Refused with the reader's numbers and octets, then 13.
 #[no_mangle]
 pub extern "C" fn llachurep_sccp_read(message: &[u8], parts: &mut [u16]) -> u32
-    ensures { λ r. ⌜ given r (now (parts .exit)) ≡ givenBy (sccpReadGives (now (message .entry)) (now (parts .entry))) ⌝ }
+    ensures { λ r. ⌜ given r (now (parts .exit)) ≡
+        givenBy (sccpReadGives (now (message .entry)) (now (parts .entry))) ⌝ }
 {
     match sccp_codec::read(message) {
         Reading::Refused(n, at) => telling::refusal(n, at),
@@ -71,7 +75,8 @@ pub extern "C" fn llachurep_sccp_read(message: &[u8], parts: &mut [u16]) -> u32
     }
 }
 
-// Writes an SCCP message in its compact form to the front of `out`. Accepted: how many octets were written. Refused with 3, 10, 11, 12, 2, 13.
+// Writes an SCCP message in its compact form to the front of `out`. Accepted: how many octets were
+// written. Refused with 3, 10, 11, 12, 2, 13.
 #[no_mangle]
 pub extern "C" fn llachurep_sccp_write(
     kind: u32,
@@ -82,7 +87,8 @@ pub extern "C" fn llachurep_sccp_write(
     optional: &[u8],
     out: &mut [u8],
 ) -> u32
-    ensures { λ r. ⌜ given r (now (out .exit)) ≡ givenBy (sccpWriteOf kind (now (fixed .entry)) (now (first .entry)) (now (second .entry)) (now (third .entry)) (now (optional .entry)) (now (out .entry))) ⌝ }
+    ensures { λ r. ⌜ given r (now (out .exit)) ≡
+        givenBy (sccpWriteOf kind (now (fixed .entry)) (now (first .entry)) (now (second .entry)) (now (third .entry)) (now (optional .entry)) (now (out .entry))) ⌝ }
 {
     telling::written(sccp_codec::write(kind, fixed, first, second, third, optional, out))
 }

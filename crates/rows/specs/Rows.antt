@@ -1,4 +1,5 @@
--- What a row says and what becomes of it: 1 busy, 2 remotely blocked for maintenance, 4 for hardware, 8 locally blocked, added up.
+-- What a row says and what becomes of it: 1 busy, 2 remotely blocked for maintenance, 4 for
+-- hardware, 8 locally blocked, added up.
 use Prim.Native.Nat.{ℕ, _+_, _-_, _*_, _/_, _%_}
 use mathlib.Core.Bool.{Bool}
 use mathlib.Core.List.{List, [], _∷_}
@@ -99,6 +100,7 @@ unfoldable pub localRow : Bool → ℕ → ℕ
 localRow set row = if set then withLocal row else withoutLocal row
 
 -- ---- what is told of it
--- R44. the circuit state octet of a row (003, 3.12): idle 0C, busy 04, remotely blocked for maintenance 02 more, for hardware 20 more, locally blocked 01 more
+-- R44. the circuit state octet of a row (003, 3.12): idle 0C, busy 04, remotely blocked for
+-- maintenance 02 more, for hardware 20 more, locally blocked 01 more
 abbrev pub circuitState : ℕ → ℕ
 circuitState row = 12 - 8 * busy row + 2 * maintenance row + 32 * hardware row + local row

@@ -1,4 +1,5 @@
--- How a run of steps stops, told by the parameters that stand in the message, and the other way round.
+-- How a run of steps stops, told by the parameters that stand in the
+-- message, and the other way round.
 use Prim.Native.Nat.{ℕ, zero, suc, _+_, _≤_, _<_}
 use mathlib.Core.Path.{_≡_, refl, sym, _∙_, ap, subst}
 use mathlib.Core.List.{List, [], _∷_}

@@ -1,4 +1,5 @@
--- What a step and a run of steps do, from the facts and not the tests. Each holds at any bound on the steps that is enough, so no proof compares two bounds.
+-- What a step and a run of steps do, from the facts and not the tests. Each holds at any bound on
+-- the steps that is enough, so no proof compares two bounds.
 use Prim.Native.Nat.{ℕ, zero, suc, _+_, _≤_, _<_}
 use mathlib.Core.Path.{_≡_, refl}
 use mathlib.Core.List.{List}

@@ -12,7 +12,8 @@ pub record Param : Type 0 where
   pub name : ℕ
   pub contents : List ℕ
 
--- at octet i stands this parameter: a name that is not 0, a length octet, then that many octets, the last of them before octet k
+-- at octet i stands this parameter: a name that is not 0, a length octet, then that many octets,
+-- the last of them before octet k
 pub record ParamAt (m : List ℕ) (i : ℕ) (q : Param) (k : ℕ) : Type 0 where
   pub named : q .name ≡ octet m i
   pub not-zero : octet m i ≡ 0 → ⊥
@@ -29,7 +30,8 @@ Params m i (q ∷ qs) z = (k : ℕ) × ParamAt m i q k × Params m k qs z
 abbrev pub Closes : List ℕ → ℕ → Type 0
 Closes m z = (z < length m) × (octet m z ≡ 0)
 
--- R10. from octet i on stand these parameters, then a 0 where a name would stand, the last octet before j
+-- R10. from octet i on stand these parameters, then a 0 where a name would
+-- stand, the last octet before j
 abbrev pub Run : List ℕ → ℕ → List Param → ℕ → Type 0
 Run m i qs j = (z : ℕ) × Params m i qs z × Closes m z × (j ≡ z + 1)
 
@@ -45,7 +47,8 @@ Ends m z = Closes m z ⊎ ((length m ≤ z) ⊎ Passes m z)
 abbrev pub Whole : List ℕ → ℕ → List Param → Type 0
 Whole m i qs = (z : ℕ) × Params m i qs z × Ends m z
 
--- R18. a run that is lent by itself: its whole parameters come to a name 0, or to a parameter that passes its end
+-- R18. a run that is lent by itself: its whole parameters come to a name 0, or
+-- to a parameter that passes its end
 abbrev pub BadRun : List ℕ → Type 0
 BadRun r = (i : ℕ) × (qs : List Param) × Params r 0 qs i × (Closes r i ⊎ Passes r i)
 
@@ -54,7 +57,8 @@ abbrev pub NoneNamed : ℕ → List Param → Type 0
 NoneNamed name [] = Unit {0}
 NoneNamed name (q ∷ qs) = (q .name ≡ name → ⊥) × NoneNamed name qs
 
--- R20. of the parameters qs, which stand from octet i on, the first of that name has its contents at octet a, and they are n octets
+-- R20. of the parameters qs, which stand from octet i on, the first of that name has its contents
+-- at octet a, and they are n octets
 pub record FirstNamed (m : List ℕ) (i : ℕ) (qs : List Param) (name a n : ℕ) : Type 0 where
   pub before : List Param
   pub it : Param

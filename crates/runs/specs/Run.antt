@@ -1,4 +1,5 @@
--- A run of optional parameters: name (not 0), length, contents, one after the other; in a message, closed by a 0 where a name would stand.
+-- A run of optional parameters: name (not 0), length, contents, one after the other; in a message,
+-- closed by a 0 where a name would stand.
 use Prim.Native.Nat.{ℕ, zero, suc, _+_}
 use mathlib.Core.Bool.{Bool, true, false}
 use mathlib.Core.List.{List}
@@ -13,11 +14,13 @@ use Rattle.runs.specs.declared.Stop.the-variants.{Closed, Ended, Passed}
 use Rattle.runs.specs.declared.Found.{Found}
 use Rattle.runs.specs.declared.Found.the-variants.{At, Nowhere}
 
--- past an optional parameter whose name stands at i: the name, a length octet, then that many octets
+-- past an optional parameter whose name stands at i: the name, a length
+-- octet, then that many octets
 abbrev pub next : List ℕ → ℕ → ℕ
 next m i = i + 2 + octet m (i + 1)
 
--- what stands at i, where a name would stand: nothing, the octets end there; the closing 0; a parameter that passes the end; a parameter
+-- what stands at i, where a name would stand: nothing, the octets end there; the closing 0; a
+-- parameter that passes the end; a parameter
 unfoldable pub stepAt : List ℕ → ℕ → Step
 stepAt m i =
     if leb (length m) i then End
@@ -63,6 +66,7 @@ unfoldable pub seeks : ℕ → List ℕ → ℕ → ℕ → Found
 seeks zero m name i = Nowhere
 seeks (suc k) m name i = sought name (seeks k m name) (stepAt m i)
 
--- where the first parameter of that name has its contents, and how many octets, among those from i on
+-- where the first parameter of that name has its contents, and how many
+-- octets, among those from i on
 unfoldable pub namedFrom : List ℕ → ℕ → ℕ → Found
 namedFrom m i name = seeks (suc (length m)) m name i

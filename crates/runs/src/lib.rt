@@ -1,4 +1,5 @@
-// A run of optional parameters: name (not 0), length, contents, one after the other; in a message, closed by a 0 where a name would stand.
+// A run of optional parameters: name (not 0), length, contents, one after the other; in a message,
+// closed by a 0 where a name would stand.
 // Octets are numbered from 0.
 ghost use mathlib.Core.Path.{_≡_};
 ghost use Rattle.runs.specs.Run.{stepAt, stopFrom, isRun, namedFrom};
@@ -10,7 +11,8 @@ pub struct Field {
     pub len: usize,
 }
 
-// What stands where a name would stand: a parameter; the 0 that closes a run; nothing, the octets end there; or a parameter that passes their end.
+// What stands where a name would stand: a parameter; the 0 that closes a run; nothing, the octets
+// end there; or a parameter that passes their end.
 pub enum Step {
     Param(Field),
     Close,
@@ -24,7 +26,8 @@ pub enum Found {
     Nowhere,
 }
 
-// How a run of parameters ends, and where: at a 0, at the end of the octets, or at a parameter that passes it.
+// How a run of parameters ends, and where: at a 0, at the end of the octets,
+// or at a parameter that passes it.
 pub enum Stop {
     Closed(usize),
     Ended(usize),
@@ -70,7 +73,8 @@ pub fn run_stop(octets: &[u8], from: usize) -> Stop
     }
 }
 
-// Whether the octets are whole optional parameters, none with name 0, to their very end: a run without its closing 0.
+// Whether the octets are whole optional parameters, none with name 0, to their
+// very end: a run without its closing 0.
 pub fn is_run(octets: &[u8]) -> bool
     ensures { λ r. ⌜ r ≡ isRun (now (octets .entry)) ⌝ }
 {
@@ -81,7 +85,8 @@ pub fn is_run(octets: &[u8]) -> bool
     }
 }
 
-// Where the first parameter of that name has its contents, among those that stand one after the other from `from` on.
+// Where the first parameter of that name has its contents, among those that
+// stand one after the other from `from` on.
 pub fn named(octets: &[u8], from: usize, name: u8) -> Found
     ensures { λ r. ⌜ r ≡ namedFrom (now (octets .entry)) from name ⌝ }
 {

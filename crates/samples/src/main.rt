@@ -1,4 +1,6 @@
-// Shows each sample message of document 01 with its outcome: what the hub answers and leaves in the rows, the called number, the compact form, the optional parameter, or the refusal's number with its octet.
+// Shows each sample message of document 01 with its outcome: what the hub answers and
+// leaves in the rows, the called number, the compact form, the optional parameter, or
+// the refusal's number with its octet.
 use asks::Verdict;
 use finding::Located;
 use isup::Reading;
@@ -45,7 +47,8 @@ fn put_refusal(number: u8, line: &mut [u8], at: usize) -> usize {
     printing::put_number(number as usize, line, next)
 }
 
-// Puts a refusal's number and the octet that a reader's number from 3 to 8 is about; answers the next place.
+// Puts a refusal's number and the octet that a reader's number from 3 to 8 is
+// about; answers the next place.
 fn put_fault(number: u8, place: usize, line: &mut [u8], at: usize) -> usize {
     let next = put_refusal(number, line, at);
     if number < 3 {
@@ -81,7 +84,8 @@ fn put_rows(message: &[u8], states: &[u8], line: &mut [u8], at: usize) -> usize 
     }
 }
 
-// Puts what the hub makes of a message, every row 0 before, every circuit the sender's and nobody's help; answers the next place.
+// Puts what the hub makes of a message, every row 0 before, every circuit the sender's and nobody's
+// help; answers the next place.
 fn put_acted(
     message: &[u8],
     states: &mut [u8],

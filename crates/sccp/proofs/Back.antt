@@ -1,4 +1,5 @@
--- What a message in compact form says, to SCCP and to the family alike; two that say the same are the same octets.
+-- What a message in compact form says, to SCCP and to the family alike; two
+-- that say the same are the same octets.
 use Prim.Native.Nat.{ℕ}
 use mathlib.Core.Path.{_≡_, refl, sym, _∙_, ap}
 use mathlib.Core.List.{List, []}

@@ -1,4 +1,5 @@
--- The reader accepts exactly the well-formed messages, and ignores what it should: family's theorems, with no header, 268 octets and SCCP's table.
+-- The reader accepts exactly the well-formed messages, and ignores what it should: family's
+-- theorems, with no header, 268 octets and SCCP's table.
 use Prim.Native.Nat.{ℕ, _≤_}
 use mathlib.Core.Path.{_≡_, refl, sym, _∙_, ap, subst}
 use mathlib.Core.List.{List}
@@ -38,7 +39,8 @@ read-exactly m x = (
 pub well-formed-unique : (m : List ℕ) (x y : Message) → SccpFormed m x → SccpFormed m y → x ≡ y
 well-formed-unique m x y f g = accepted-same (sym (read-exactly m x .1 f) ∙ read-exactly m y .1 g)
 
--- gaps and octets after the last part are ignored: a message that agrees on the type, the fixed part, the pointers and the parts reads the same
+-- gaps and octets after the last part are ignored: a message that agrees on the type, the fixed
+-- part, the pointers and the parts reads the same
 pub gaps-read-same : (m m′ : List ℕ) (x : Message) (f : SccpFormed m x) → length m′ ≤ 268 → Agrees (f .laid) m′ → sccpReadOf m′ ≡ sccpReadOf m
 unfolding sccpReadOf
 gaps-read-same m m′ x f l g =

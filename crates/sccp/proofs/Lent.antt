@@ -1,4 +1,5 @@
--- What `write` and `compact` leave in the lent buffer: what is written reads back as given; the one compact form, or 12.
+-- What `write` and `compact` leave in the lent buffer: what is written reads
+-- back as given; the one compact form, or 12.
 use Prim.Native.Nat.{ℕ, _≤_}
 use mathlib.Core.Path.{_≡_, refl}
 use mathlib.Core.List.{List, []}
@@ -19,7 +20,8 @@ use Rattle.sccp.proofs.Back.{tight, said, same-said, said-same}
 
 -- ---- writing
 module _ (kind : ℕ) (fixed first second third run buffer : List ℕ) (n : ℕ) (left : List ℕ) (e : sccpWriteOf kind fixed first second third run buffer ≡ leaving (accepted n) left) where
-  -- the n octets that `write` left read; they are in the compact form and say what was given, octet for octet
+  -- the n octets that `write` left read; they are in the compact form and say
+  -- what was given, octet for octet
   pub write-reads-back : (x : Message) × (sccpReadOf (take n left) ≡ accepted x) × SccpCompact (take n left) x × SccpSays (take n left) x kind fixed first second third run
   unfolding sccpWriteOf sccpWriteIn
   write-reads-back =

@@ -30,7 +30,8 @@ pub sccp-types : (t : ℕ) → ((s : Shape) × (sccpShapeOf t ≡ Has s)) ↔ On
 unfolding sccpShapeOf
 sccp-types t = (λ x. look-listed t sccpTable (x .0) (x .1), λ o. listed-look t sccpTable o)
 
--- the rows in which one pointer or three are easily taken for another: RSR and ERR have an optional part and no variable one, UDT and UDTS have three variable parts
+-- the rows in which one pointer or three are easily taken for another: RSR and ERR have an optional
+-- part and no variable one, UDT and UDTS have three variable parts
 pub pointers-told : (sccpShapeOf 0x0D ≡ Has (record { fixed = 7; vars = 0; opt = true }))
     × (sccpShapeOf 0x0F ≡ Has (record { fixed = 4; vars = 0; opt = true }))
     × (sccpShapeOf 0x09 ≡ Has (record { fixed = 1; vars = 3; opt = false }))
@@ -50,6 +51,7 @@ three t s e =
     look-at-most 3 t sccpTable s
     (omega arith, (omega arith, (omega arith, (omega arith, (omega arith, (omega arith, (omega arith, (omega arith, (omega arith, (omega arith, (omega arith, (omega arith, tt)))))))))))) e
 
--- the look-up table says what the lines say, at each of the 256 octets; the proof of `shape_of` computes that it is the code's
+-- the look-up table says what the lines say, at each of the 256 octets; the proof of `shape_of`
+-- computes that it is the code's
 pub table-says : (k : ℕ) → k < 256 → unpackedOf (octet (tableOf sccpShapeOf) k) ≡ sccpShapeOf k
 table-says = table-rows sccpShapeOf three

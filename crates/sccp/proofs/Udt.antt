@@ -1,4 +1,6 @@
--- UDT and refusal 12: its third pointer reaches over the first two contents, so these may have 252 octets together (as 126 and 126), which put 255 into the pointer; 253 (as 127 and 126) are too far.
+-- UDT and refusal 12: its third pointer reaches over the first two contents, so
+-- these may have 252 octets together (as 126 and 126), which put 255 into the
+-- pointer; 253 (as 127 and 126) are too far.
 use Prim.Native.Nat.{ℕ, _+_, _≤_, _<_}
 use mathlib.Core.Path.{_≡_, refl, sym, _∙_, ap}
 use mathlib.Core.Bool.{false}
@@ -39,7 +41,8 @@ module _ (fixed first second third : List ℕ) (one : length fixed ≡ 1) where
   udt-fits : Fits udt ask
   udt-fits = record { few = omega arith; fixed = one; first = λ h. absurd (omega arith); second = λ h. absurd (omega arith); third = λ h. absurd (omega arith); run = λ h. refl }
 
-  -- 12 exactly where the first two contents have more than 252 octets together, or the third has more than 255
+  -- 12 exactly where the first two contents have more than 252 octets
+  -- together, or the third has more than 255
   pub udt-twelve : Exceeds udt ask ↔ ((252 < length first + length second) ⊎ (255 < length third))
   udt-twelve = (
     ⊎-elim (λ x. inl (omega arith)) (⊎-elim (λ x. inl (omega arith)) (⊎-elim (λ x. inr x) (⊎-elim (λ x. inl (omega (arith, x .1))) (⊎-elim (λ x. inl (omega (arith, x .1))) (λ x. absurd (omega (arith, x .0))))))),
@@ -78,7 +81,8 @@ module _ (fixed first second third : List ℕ) (one : length fixed ≡ 1) where
       udt-written ∙ rw (u, w, x) refl
 
   module _ (buffer : List ℕ) where
-    -- 252 octets in the first two: where 268 octets hold the message and the buffer has room for it, the third pointer is 255
+    -- 252 octets in the first two: where 268 octets hold the message and the buffer has room for
+    -- it, the third pointer is 255
     pub udt-252 : length first + length second ≡ 252 → length third ≤ 8 → 260 + length third ≤ length buffer
         → (left : List ℕ) × (sccpWriteOf 0x09 fixed first second third [] buffer ≡ leaving (accepted (260 + length third)) left) × (octet left 4 ≡ 255)
     unfolding sccpWriteOf

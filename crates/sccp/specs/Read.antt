@@ -12,6 +12,7 @@ use Rattle.sccp.specs.Table.{sccp}
 abbrev pub sccpMessage : List ℕ → Parts → Message
 sccpMessage m p = record { kind = kindAt m 0; parts = p }
 
--- a message that is well formed, or the first of the reader's numbers with the octet that it is about
+-- a message that is well formed, or the first of the reader's numbers with
+-- the octet that it is about
 unfoldable pub sccpReadOf : List ℕ → Answer Message
 sccpReadOf m = readIn sccp m then λ p. accepted (sccpMessage m p)

@@ -1,5 +1,7 @@
--- The table of types (source document 002, Table 1 and section 4): octets of the fixed part, variable parameters, and whether there is an optional part.
--- LUDT and LUDTS have pointers of two octets and are not in it. RSR and ERR have a pointer to an optional part, though no optional parameter is defined for them yet (footnote 1 of Table 1).
+-- The table of types (source document 002, Table 1 and section 4): octets of the fixed part,
+-- variable parameters, and whether there is an optional part.
+-- LUDT and LUDTS have pointers of two octets and are not in it. RSR and ERR have a pointer to an
+-- optional part, though no optional parameter is defined for them yet (footnote 1 of Table 1).
 use Prim.Native.Nat.{ℕ}
 use mathlib.Core.Bool.{true, false}
 use mathlib.Core.List.{List, [], _∷_}
@@ -8,7 +10,8 @@ use Rattle.layout.specs.declared.Row.{Row}
 use Rattle.family.specs.Table.{line, look}
 use Rattle.family.specs.Family.{Family}
 
--- R53. the table, a line for each shape row: CR; CC, RLSD, RSR; CREF, ERR; RLC, RSC; DT1; DT2; AK; UDT, UDTS; ED; EA; IT; XUDT, XUDTS
+-- R53. the table, a line for each shape row: CR; CC, RLSD, RSR; CREF, ERR; RLC, RSC; DT1; DT2; AK;
+-- UDT, UDTS; ED; EA; IT; XUDT, XUDTS
 abbrev pub sccpTable : List (List ℕ × Shape)
 sccpTable =
     line (0x01 ∷ []) 4 1 true

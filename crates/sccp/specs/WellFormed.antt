@@ -1,4 +1,5 @@
--- A well-formed SCCP message, its compact form, and what a message says, as the paper says it: no order of reading.
+-- A well-formed SCCP message, its compact form, and what a message says, as
+-- the paper says it: no order of reading.
 use Prim.Native.Nat.{ℕ, _≤_}
 use mathlib.Core.Path.{_≡_}
 use mathlib.Core.List.{List}
@@ -23,7 +24,8 @@ pub record SccpFormed (m : List ℕ) (x : Message) : Type 0 where
   pub listed : sccpShapeOf (x .kind) ≡ Has shape
   pub laid : LaidOut m 0 shape (x .parts) params
 
--- variable parameters in pointer order right after the pointers, optional part next, nothing between or after; optional pointer 0 if there are no optional parameters
+-- variable parameters in pointer order right after the pointers, optional part next, nothing
+-- between or after; optional pointer 0 if there are no optional parameters
 pub record SccpCompact (m : List ℕ) (x : Message) : Type 0 where
   pub formed : SccpFormed m x
   pub tight : Compact m 0 (formed .shape) (x .parts) (formed .params)
@@ -37,8 +39,10 @@ pub record SccpSays (m : List ℕ) (x : Message) (k : ℕ) (f a b c r : List ℕ
   pub third : partOf m (x .parts .third) ≡ c
   pub run : partOf m (x .parts .optional) ≡ r
 
--- the octets ys are a message in compact form that says what message m says, which reads as x: type, fixed octets, contents and optional run
+-- the octets ys are a message in compact form that says what message m says, which reads as x:
+-- type, fixed octets, contents and optional run
 abbrev pub SccpSaysSame : List ℕ → Message → List ℕ → Type 0
 SccpSaysSame m x ys =
     (y : Message) × SccpCompact ys y
-    × SccpSays ys y (x .kind) (partOf m (x .parts .fixed)) (partOf m (x .parts .first)) (partOf m (x .parts .second)) (partOf m (x .parts .third)) (partOf m (x .parts .optional))
+    × SccpSays ys y (x .kind) (partOf m (x .parts .fixed)) (partOf m (x .parts .first))
+    (partOf m (x .parts .second)) (partOf m (x .parts .third)) (partOf m (x .parts .optional))

@@ -1,4 +1,5 @@
-// SCCP: the 18 types whose pointers have one octet, the reader and the writer. No octet stands before the type.
+// SCCP: the 18 types whose pointers have one octet, the reader and the writer.
+// No octet stands before the type.
 ghost use mathlib.Core.Path.{_≡_};
 ghost use Rattle.octets.specs.Filled.{leaving};
 ghost use Rattle.octets.specs.Told.{writtenTold};
@@ -16,14 +17,16 @@ use shapes::SHAPES;
 
 mod shapes;
 
-// What the table says of a type octet: its shape row, or that it is not in the table. One answer for each of the 256, by one look-up.
+// What the table says of a type octet: its shape row, or that it is not in the table. One answer
+// for each of the 256, by one look-up.
 pub fn shape_of(kind: u8) -> Row
     ensures { λ r. ⌜ r ≡ sccpShapeOf kind ⌝ }
 {
     heads::row_of(SHAPES[kind as usize])
 }
 
-// Reads a message: its type and where its parts stand; or the refusal's number with the octet that it is about, 0 for 1, 2 and 3.
+// Reads a message: its type and where its parts stand; or the refusal's number with the octet that
+// it is about, 0 for 1, 2 and 3.
 pub fn read(message: &[u8]) -> Reading
     ensures { λ r. ⌜ sccpTold r ≡ sccpReadOf (now (message .entry)) ⌝ }
 {
@@ -34,7 +37,8 @@ pub fn read(message: &[u8]) -> Reading
     }
 }
 
-// Writes a message in its compact form: fills the front of `out` and keeps the rest, and answers how many octets were written.
+// Writes a message in its compact form: fills the front of `out` and keeps the rest, and answers
+// how many octets were written.
 // Refused with 3, 10, 11, 12, 2, 13 in that order, and then `out` holds what it held.
 pub fn write(
     kind: u32,
@@ -45,7 +49,9 @@ pub fn write(
     optional: &[u8],
     out: &mut [u8],
 ) -> Written
-    ensures { λ r. ⌜ leaving (writtenTold r) (now (out .exit)) ≡ sccpWriteOf kind (now (fixed .entry)) (now (first .entry)) (now (second .entry)) (now (third .entry)) (now (optional .entry)) (now (out .entry)) ⌝ }
+    ensures { λ r. ⌜ leaving (writtenTold r) (now (out .exit)) ≡
+        sccpWriteOf kind (now (fixed .entry)) (now (first .entry)) (now (second .entry))
+        (now (third .entry)) (now (optional .entry)) (now (out .entry)) ⌝ }
 {
     if 255 < kind {
         return Written::Refused(3, 0);
@@ -68,10 +74,13 @@ pub fn write(
     }
 }
 
-// Reads a message and writes it again, in its compact form: fills the front of `out` and keeps the rest, and answers how many octets were written.
-// Refused with the reader's numbers and octets, then 12, then 13, and then `out` holds what it held.
+// Reads a message and writes it again, in its compact form: fills the front of `out` and keeps the
+// rest, and answers how many octets were written.
+// Refused with the reader's numbers and octets, then 12, then 13, and then
+// `out` holds what it held.
 pub fn compact(message: &[u8], out: &mut [u8]) -> Written
-    ensures { λ r. ⌜ leaving (writtenTold r) (now (out .exit)) ≡ sccpCompactOf (now (message .entry)) (now (out .entry)) ⌝ }
+    ensures { λ r. ⌜ leaving (writtenTold r) (now (out .exit)) ≡
+        sccpCompactOf (now (message .entry)) (now (out .entry)) ⌝ }
 {
     let row = shape_of(heads::kind_at(message, 0));
     let head = &message[0..0];

@@ -16,7 +16,8 @@ use Rattle.requests.specs.Words.{numberAt, octetAt, octetsAt}
 use Rattle.lines.specs.Lines.{shown, faultLine, octetsLine, compactLine, lent}
 use Rattle.read_lines.specs.Read.{shapeLine}
 
--- fixed 00 first 42 second 43 third 0102 optional -; a part that is not there, or is empty, is -, and the optional run is without its closing 0
+-- fixed 00 first 42 second 43 third 0102 optional -; a part that is not there, or is empty, is -,
+-- and the optional run is without its closing 0
 unfoldable pub threeLine : List ℕ → Parts → List ℕ
 threeLine m p =
     shown " fixed " (partOf m (p .fixed))
@@ -35,5 +36,6 @@ unfoldable pub sccpLine : ℕ → List FieldSays → List ℕ
 sccpLine which gs =
     if eqb which SCCP-SHAPE then shapeLine (sccpShapeOf (octetAt gs 0))
     else if eqb which SCCP-READ then typeLine (octetsAt gs 0) (sccpReadOf (octetsAt gs 0))
-    else if eqb which SCCP-WRITE then octetsLine (sccpWriteOf (numberAt gs 0) (octetsAt gs 1) (octetsAt gs 2) (octetsAt gs 3) (octetsAt gs 4) (octetsAt gs 5) (lent (numberAt gs 6)))
+    else if eqb which SCCP-WRITE
+    then octetsLine (sccpWriteOf (numberAt gs 0) (octetsAt gs 1) (octetsAt gs 2) (octetsAt gs 3) (octetsAt gs 4) (octetsAt gs 5) (lent (numberAt gs 6)))
     else compactLine (sccpCompactOf (octetsAt gs 0) (lent (numberAt gs 1)))

@@ -19,7 +19,8 @@ use sccp::Reading;
 
 // Puts the parts of a message from `at` on, the third contents too, and answers the next place.
 fn put_three(message: &[u8], parts: Parts, out: &mut [u8], at: usize) -> usize
-    ensures { λ r. ⌜ sheet (now (out .exit)) r ≡ pour (sheet (now (out .entry)) at) (threeLine (now (message .entry)) parts) ⌝ }
+    ensures { λ r. ⌜ sheet (now (out .exit)) r ≡
+        pour (sheet (now (out .entry)) at) (threeLine (now (message .entry)) parts) ⌝ }
 {
     let fixed = sayings::put_shown(
         b" fixed ",
@@ -55,7 +56,9 @@ fn put_three(message: &[u8], parts: Parts, out: &mut [u8], at: usize) -> usize
 
 // What a message says that reads so.
 fn say_message(message: &[u8], x: Message, out: &mut [u8]) -> usize
-    ensures { λ r. ⌜ sheet (now (out .exit)) r ≡ pour (sheet (now (out .entry)) 0) (typeLine (now (message .entry)) (sccpTold (Reading.Read x))) ⌝ }
+    ensures { λ r. ⌜ sheet (now (out .exit)) r ≡
+        pour (sheet (now (out .entry)) 0)
+        (typeLine (now (message .entry)) (sccpTold (Reading.Read x))) ⌝ }
 {
     let parts = x.parts;
     let kind = sayings::put_shown(b"type ", &[x.kind], out, 0);
@@ -64,7 +67,9 @@ fn say_message(message: &[u8], x: Message, out: &mut [u8]) -> usize
 
 // Says what a message says, or the refusal with its octet.
 fn say_read(message: &[u8], out: &mut [u8]) -> usize
-    ensures { λ r. ⌜ sheet (now (out .exit)) r ≡ pour (sheet (now (out .entry)) 0) (typeLine (now (message .entry)) (sccpReadOf (now (message .entry)))) ⌝ }
+    ensures { λ r. ⌜ sheet (now (out .exit)) r ≡
+        pour (sheet (now (out .entry)) 0)
+        (typeLine (now (message .entry)) (sccpReadOf (now (message .entry)))) ⌝ }
 {
     match sccp_codec::read(message) {
         Reading::Refused(n, at) => sayings::say_fault(n, at, out),
@@ -76,8 +81,10 @@ fn say_read(message: &[u8], out: &mut [u8]) -> usize
 fn say_write(fields: [Field; 8], octets: &[u8], out: &mut [u8]) -> usize
     ensures { λ r. ⌜ sheet (now (out .exit)) r ≡ pour (sheet (now (out .entry)) 0)
         (octetsLine (sccpWriteOf (numberAt (saidIn (now (octets .entry)) fields) 0) (octetsAt (saidIn (now (octets .entry)) fields) 1)
-        (octetsAt (saidIn (now (octets .entry)) fields) 2) (octetsAt (saidIn (now (octets .entry)) fields) 3)
-        (octetsAt (saidIn (now (octets .entry)) fields) 4) (octetsAt (saidIn (now (octets .entry)) fields) 5)
+        (octetsAt (saidIn (now (octets .entry)) fields) 2)
+        (octetsAt (saidIn (now (octets .entry)) fields) 3)
+        (octetsAt (saidIn (now (octets .entry)) fields) 4)
+        (octetsAt (saidIn (now (octets .entry)) fields) 5)
         (lent (numberAt (saidIn (now (octets .entry)) fields) 6)))) ⌝ }
 {
     let kind = fields[0];
@@ -117,9 +124,12 @@ fn say_compact(fields: [Field; 8], octets: &[u8], out: &mut [u8]) -> usize
     sayings::say_again(written, buffer, out)
 }
 
-// Puts the answer's line to one of SCCP's requests at the front of `out`, and answers the next place. What `out` has no room for is left out.
+// Puts the answer's line to one of SCCP's requests at the front of `out`, and answers the next
+// place. What `out` has no room for is left out.
 pub fn sccp_line(request: Request, octets: &[u8], out: &mut [u8]) -> usize
-    ensures { λ r. ⌜ sheet (now (out .exit)) r ≡ pour (sheet (now (out .entry)) 0) (sccpLine (request .which) (saidIn (now (octets .entry)) (request .fields))) ⌝ }
+    ensures { λ r. ⌜ sheet (now (out .exit)) r ≡
+        pour (sheet (now (out .entry)) 0)
+        (sccpLine (request .which) (saidIn (now (octets .entry)) (request .fields))) ⌝ }
 {
     let fields = request.fields;
     if request.which == SCCP_SHAPE {

@@ -7,7 +7,8 @@ use layout::Row;
 
 // Puts what a row of a family's table says at the front of `out`, and answers the next place.
 pub fn say_row(row: Row, out: &mut [u8]) -> usize
-    ensures { λ r. ⌜ sheet (now (out .exit)) r ≡ pour (sheet (now (out .entry)) 0) (shapeLine row) ⌝ }
+    ensures { λ r. ⌜ sheet (now (out .exit)) r ≡
+        pour (sheet (now (out .entry)) 0) (shapeLine row) ⌝ }
 {
     match row {
         Row::Unknown => sayings::say_refusal(3, out),
@@ -24,7 +25,8 @@ pub fn say_row(row: Row, out: &mut [u8]) -> usize
 
 // Puts what a type's shape is at the front of `out`, and answers the next place.
 pub fn say_shape(kind: u8, out: &mut [u8]) -> usize
-    ensures { λ r. ⌜ sheet (now (out .exit)) r ≡ pour (sheet (now (out .entry)) 0) (shapeLine (shapeOf kind)) ⌝ }
+    ensures { λ r. ⌜ sheet (now (out .exit)) r ≡
+        pour (sheet (now (out .entry)) 0) (shapeLine (shapeOf kind)) ⌝ }
 {
     say_row(isup_codec::shape_of(kind), out)
 }

@@ -30,12 +30,17 @@ fn filler(contents: &[u8]) -> u8
     contents[last] / 16
 }
 
-// The steps of reading hand on references to the two lent slices, one word each: what they hand on stays in registers, and the two steps of the pair are one loop in the end.
+// The steps of reading hand on references to the two lent slices, one word each: what they hand on
+// stays in registers, and the two steps of the pair are one loop in the end.
 
-// Reads the low half of octet `at` of the signals, and hands on to the high half, until no signal is left; leaves signal 2 at and those after it at their places.
+// Reads the low half of octet `at` of the signals, and hands on to the high half, until no signal
+// is left; leaves signal 2 at and those after it at their places.
 fn read_low(contents: &&[u8], signals: &mut &mut [u8], at: usize, left: usize)
-    requires { ⌜ (2 * at + left ≡ countIn (now (now contents))) × (countIn (now (now contents)) ≤ 30) × (countIn (now (now contents)) ≤ length (now (now signals))) ⌝ }
-    ensures { λ _. ⌜ now (signals .exit) ≡ at-last (now (signals .entry)) (sets (now (now (signals .entry))) (2 * at) (drop (2 * at) (signalsIn (now (now (contents .entry)))))) ⌝ }
+    requires { ⌜ (2 * at + left ≡ countIn (now (now contents)))
+        × (countIn (now (now contents)) ≤ 30)
+        × (countIn (now (now contents)) ≤ length (now (now signals))) ⌝ }
+    ensures { λ _. ⌜ now (signals .exit) ≡
+        at-last (now (signals .entry)) (sets (now (now (signals .entry))) (2 * at) (drop (2 * at) (signalsIn (now (now (contents .entry)))))) ⌝ }
 {
     if left == 0 {
         return;
@@ -44,10 +49,14 @@ fn read_low(contents: &&[u8], signals: &mut &mut [u8], at: usize, left: usize)
     read_high(contents, signals, at, left - 1);
 }
 
-// Reads the high half of octet `at` of the signals, and hands on to the low half of the next octet, until no signal is left; leaves signal 2 at + 1 and those after it at their places.
+// Reads the high half of octet `at` of the signals, and hands on to the low half of the next octet,
+// until no signal is left; leaves signal 2 at + 1 and those after it at their places.
 fn read_high(contents: &&[u8], signals: &mut &mut [u8], at: usize, left: usize)
-    requires { ⌜ (2 * at + 1 + left ≡ countIn (now (now contents))) × (countIn (now (now contents)) ≤ 30) × (countIn (now (now contents)) ≤ length (now (now signals))) ⌝ }
-    ensures { λ _. ⌜ now (signals .exit) ≡ at-last (now (signals .entry)) (sets (now (now (signals .entry))) (2 * at + 1) (drop (2 * at + 1) (signalsIn (now (now (contents .entry)))))) ⌝ }
+    requires { ⌜ (2 * at + 1 + left ≡ countIn (now (now contents)))
+        × (countIn (now (now contents)) ≤ 30)
+        × (countIn (now (now contents)) ≤ length (now (now signals))) ⌝ }
+    ensures { λ _. ⌜ now (signals .exit) ≡
+        at-last (now (signals .entry)) (sets (now (now (signals .entry))) (2 * at + 1) (drop (2 * at + 1) (signalsIn (now (now (contents .entry)))))) ⌝ }
 {
     if left == 0 {
         return;
@@ -56,18 +65,24 @@ fn read_high(contents: &&[u8], signals: &mut &mut [u8], at: usize, left: usize)
     read_low(contents, signals, at + 1, left - 1);
 }
 
-// Reads all signals of a number, the low half of the first octet first: lends its buffer to the steps, and leaves the signals at the front.
+// Reads all signals of a number, the low half of the first octet first: lends its buffer to the
+// steps, and leaves the signals at the front.
 fn read_signals(contents: &&[u8], mut signals: &mut [u8], count: usize)
-    requires { ⌜ (count ≡ countIn (now (now contents))) × (countIn (now (now contents)) ≤ 30) × (countIn (now (now contents)) ≤ length (now signals)) ⌝ }
-    ensures { λ _. ⌜ now (signals .exit) ≡ sets (now (signals .entry)) 0 (signalsIn (now (now (contents .entry)))) ⌝ }
+    requires { ⌜ (count ≡ countIn (now (now contents))) × (countIn (now (now contents)) ≤ 30)
+        × (countIn (now (now contents)) ≤ length (now signals)) ⌝ }
+    ensures { λ _. ⌜ now (signals .exit) ≡
+        sets (now (signals .entry)) 0 (signalsIn (now (now (contents .entry)))) ⌝ }
 {
     read_low(contents, &mut signals, 0, count);
 }
 
-// Reads a number: its values are the answer and its signals fill the front of `signals`, one to an octet, and the rest of it is kept.
-// Refused with 14 for contents that break their rule, else with 13 for too short a buffer; a refusal keeps all of `signals`.
+// Reads a number: its values are the answer and its signals fill the front of `signals`, one to an
+// octet, and the rest of it is kept.
+// Refused with 14 for contents that break their rule, else with 13 for too short a buffer; a
+// refusal keeps all of `signals`.
 pub fn read_number(contents: &[u8], signals: &mut [u8]) -> NumberRead
-    ensures { λ r. ⌜ leaving (readAnswer r) (now (signals .exit)) ≡ readNumberOf (now (contents .entry)) (now (signals .entry)) ⌝ }
+    ensures { λ r. ⌜ leaving (readAnswer r) (now (signals .exit)) ≡
+        readNumberOf (now (contents .entry)) (now (signals .entry)) ⌝ }
 {
     if contents.len() < 2 {
         return NumberRead::Refused(14);

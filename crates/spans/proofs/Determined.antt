@@ -1,4 +1,5 @@
--- Any two outcomes that a public function's contract allows are equal: the table, the buffer and the next place.
+-- Any two outcomes that a public function's contract allows are equal: the
+-- table, the buffer and the next place.
 use Prim.Native.Nat.{ℕ, _%_}
 use mathlib.Core.Path.{_≡_, ap}
 use mathlib.Core.List.{List}

@@ -1,4 +1,5 @@
-// Makes a span of a table hold one octet, as the requests own, helper, set and tick ask, and says so.
+// Makes a span of a table hold one octet, as the requests own, helper, set
+// and tick ask, and says so.
 ghost use mathlib.Core.Path.{_≡_};
 ghost use Prim.Native.Nat.{_%_};
 ghost use Rattle.octets.specs.Applied.{spread};
@@ -28,7 +29,8 @@ fn spread_over(table: &mut [u8], first: usize, last: usize, octet: u8)
     }
 }
 
-// Makes each entry of a table from the first to the last the octet that a request says, says so at the front of `out`, and answers the next place.
+// Makes each entry of a table from the first to the last the octet that a request says, says so at
+// the front of `out`, and answers the next place.
 pub fn spread_said(table: &mut [u8], first: u32, last: u32, octet: u32, out: &mut [u8]) -> usize
     ensures { λ r. ⌜ (now (table .exit) ≡ spread (now (table .entry)) first last (octet % 256)) ×
         (sheet (now (out .exit)) r ≡ pour (sheet (now (out .entry)) 0) (said "ok")) ⌝ }

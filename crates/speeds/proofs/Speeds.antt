@@ -1,4 +1,5 @@
--- Velocities at the boundary: refused exactly when, what a refusal keeps, and that the contracts allow one outcome.
+-- Velocities at the boundary: refused exactly when, what a refusal keeps, and
+-- that the contracts allow one outcome.
 use Prim.Native.Nat.{ℕ, _*_, _≤_, _<_}
 use mathlib.Core.Path.{_≡_, refl, sym, _∙_, ap}
 use mathlib.Core.Bool.{Bool, true, false}

@@ -27,7 +27,8 @@ givesCodes c codes = done codes (roomFor codes (length (numbersIn c), numbersIn 
 
 -- coding: so many numbers; 26, then 13 where there is no room for them
 unfoldable pub codeGives : Velocity → List ℕ → Done ℕ
-codeGives v codes = done codes (codesOf v then λ c. roomFor codes (length (numbersIn c), numbersIn c))
+codeGives v codes =
+    done codes (codesOf v then λ c. roomFor codes (length (numbersIn c), numbersIn c))
 
 -- how many codes a velocity has
 abbrev pub codesCount : Velocity → ℕ
@@ -49,11 +50,16 @@ valued value left = record { value = value; left = left }
 
 -- what two numbers stand for as codes: 26 for a bearing above 359, and for a speed that no code is
 unfoldable pub courseAt : ℕ → ℕ → Answer Course
-courseAt b s = if ltb 359 b then refused 26 0 else if ltb 65535 s then refused 26 0 else accepted (courseOf b s)
+courseAt b s =
+    if ltb 359 b then refused 26 0 else if ltb 65535 s then refused 26 0
+    else accepted (courseOf b s)
 
--- bearing and speed at the front of the lent values, or 13 where there is no room for both; a refusal keeps them
+-- bearing and speed at the front of the lent values, or 13 where there is no
+-- room for both; a refusal keeps them
 abbrev pub valuesBy : List Float → Answer Course → Valued
-valuesBy values (accepted c) = if ltb (length values) 2 then valued (65536 * 13) values else valued 2 (c .bearing ∷ c .speed ∷ drop 2 values)
+valuesBy values (accepted c) =
+    if ltb (length values) 2 then valued (65536 * 13) values
+    else valued 2 (c .bearing ∷ c .speed ∷ drop 2 values)
 valuesBy values (refused n at) = valued (65536 * n) values
 
 -- reading back

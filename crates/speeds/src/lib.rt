@@ -1,4 +1,5 @@
-// Velocities for C and Rust: the codes of measured values, and the values that codes stand for. With `llachurep` and its like they are one library.
+// Velocities for C and Rust: the codes of measured values, and the values that codes stand for.
+// With `llachurep` and its like they are one library.
 ghost use mathlib.Core.Path.{_≡_};
 ghost use Rattle.velocity.specs.declared.Mark.the-variants.{Upward};
 ghost use Rattle.velocity.specs.declared.Velocity.the-variants.{Horizontal, WithVertical};
@@ -21,7 +22,8 @@ const CODE_MOST: u32 = 65535;
 
 // Gives codes, or 13.
 fn give_codes(coded: Codes, codes: &mut [u16]) -> u32
-    ensures { λ r. ⌜ given r (now (codes .exit)) ≡ givenBy (givesCodes coded (now (codes .entry))) ⌝ }
+    ensures { λ r. ⌜ given r (now (codes .exit)) ≡
+        givenBy (givesCodes coded (now (codes .entry))) ⌝ }
 {
     match coded {
         Codes::Horizontal(bearing, speed) => {
@@ -46,7 +48,8 @@ fn give_codes(coded: Codes, codes: &mut [u16]) -> u32
 
 // Codes a velocity.
 fn give_coded(measured: Velocity, codes: &mut [u16]) -> u32
-    ensures { λ r. ⌜ given r (now (codes .exit)) ≡ givenBy (codeGives measured (now (codes .entry))) ⌝ }
+    ensures { λ r. ⌜ given r (now (codes .exit)) ≡
+        givenBy (codeGives measured (now (codes .entry))) ⌝ }
 {
     match coding::code(measured) {
         Coded::As(coded) => give_codes(coded, codes),
@@ -54,15 +57,18 @@ fn give_coded(measured: Velocity, codes: &mut [u16]) -> u32
     }
 }
 
-// Codes a bearing in degrees and a speed in km/h. Accepted: 2, and codes[0..2) are the bearing's and the speed's. Refused with 26, then 13.
+// Codes a bearing in degrees and a speed in km/h. Accepted: 2, and codes[0..2) are the bearing's
+// and the speed's. Refused with 26, then 13.
 #[no_mangle]
 pub extern "C" fn llachurep_velocity_code(bearing: f64, speed: f64, codes: &mut [u16]) -> u32
-    ensures { λ r. ⌜ given r (now (codes .exit)) ≡ givenBy (codeGives (Horizontal bearing speed) (now (codes .entry))) ⌝ }
+    ensures { λ r. ⌜ given r (now (codes .exit)) ≡
+        givenBy (codeGives (Horizontal bearing speed) (now (codes .entry))) ⌝ }
 {
     give_coded(Velocity::Horizontal(bearing, speed), codes)
 }
 
-// The same with a vertical speed. Accepted: 3, and codes[2] is the vertical speed's. Its mark stays with the caller.
+// The same with a vertical speed. Accepted: 3, and codes[2] is the vertical
+// speed's. Its mark stays with the caller.
 #[no_mangle]
 pub extern "C" fn llachurep_velocity_code_vertical(
     bearing: f64,
@@ -70,7 +76,8 @@ pub extern "C" fn llachurep_velocity_code_vertical(
     vertical: f64,
     codes: &mut [u16],
 ) -> u32
-    ensures { λ r. ⌜ given r (now (codes .exit)) ≡ givenBy (codeGives (WithVertical bearing speed vertical Upward) (now (codes .entry))) ⌝ }
+    ensures { λ r. ⌜ given r (now (codes .exit)) ≡
+        givenBy (codeGives (WithVertical bearing speed vertical Upward) (now (codes .entry))) ⌝ }
 {
     give_coded(
         Velocity::WithVertical(bearing, speed, vertical, Mark::Upward),
@@ -78,10 +85,12 @@ pub extern "C" fn llachurep_velocity_code_vertical(
     )
 }
 
-// What a bearing's and a speed's code stand for. Accepted: 2, and values[0..2) are the bearing and the speed. Refused with 26 for a bearing above 359 or a speed above 65535, then 13.
+// What a bearing's and a speed's code stand for. Accepted: 2, and values[0..2) are the bearing and
+// the speed. Refused with 26 for a bearing above 359 or a speed above 65535, then 13.
 #[no_mangle]
 pub extern "C" fn llachurep_velocity_read(bearing: u32, speed: u32, values: &mut [f64]) -> u32
-    ensures { λ r. ⌜ valued r (now (values .exit)) ≡ valuesGives bearing speed (now (values .entry)) ⌝ }
+    ensures { λ r. ⌜ valued r (now (values .exit)) ≡
+        valuesGives bearing speed (now (values .entry)) ⌝ }
 {
     if CODE_MOST < bearing {
         return NOT_CODED;

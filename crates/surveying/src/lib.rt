@@ -17,7 +17,8 @@ fn stuck_with(
     kind: u32,
     c: usize,
 ) -> bool
-    ensures { λ r. ⌜ r ≡ (if willDo kind (mayBlock kind (now (owners .entry)) (now (helpers .entry)) sender) (ticked (now (ticks .entry))) c then stuck else true) ⌝ }
+    ensures { λ r. ⌜ r ≡
+        (if willDo kind (mayBlock kind (now (owners .entry)) (now (helpers .entry)) sender) (ticked (now (ticks .entry))) c then stuck else true) ⌝ }
 {
     if prospects::will_do(owners, helpers, ticks, sender, kind, c) {
         return stuck;
@@ -25,7 +26,8 @@ fn stuck_with(
     true
 }
 
-// Whether some row is not legal, else whether some ticked circuit can have no plan of that kind, else how many circuits are ticked.
+// Whether some row is not legal, else whether some ticked circuit can have no plan of that kind,
+// else how many circuits are ticked.
 // Past the end of a table a row is legal, nobody is named and nothing is ticked.
 pub fn survey(
     states: &[u8],
@@ -35,7 +37,10 @@ pub fn survey(
     sender: u32,
     kind: u32,
 ) -> Survey
-    ensures { λ r. ⌜ r ≡ surveyOf (now (states .entry)) kind (mayBlock kind (now (owners .entry)) (now (helpers .entry)) sender) (ticked (now (ticks .entry))) ⌝ }
+    ensures { λ r. ⌜ r ≡
+        surveyOf (now (states .entry)) kind
+        (mayBlock kind (now (owners .entry)) (now (helpers .entry)) sender)
+        (ticked (now (ticks .entry))) ⌝ }
 {
     let mut stuck = false;
     let mut n = 0;

@@ -9,7 +9,8 @@ use Rattle.plans.specs.Turns.{mayBlock}
 use Rattle.surveys.specs.declared.Survey.the-variants.{Illegal}
 use Rattle.surveys.specs.Surveys.{canPlan, willDo, surveyOf}
 
--- a survey that ends at the first stuck circuit: circuit 0 is ticked and nobody's, and row 1 is not legal, so 20 comes first
+-- a survey that ends at the first stuck circuit: circuit 0 is ticked and nobody's, and row 1 is not
+-- legal, so 20 comes first
 pub stuck-before-illegal : (willDo 0 (mayBlock 0 [] [] 1) (ticked (1 ∷ [])) 0 ≡ false) × (surveyOf (0 ∷ 5 ∷ []) 0 (mayBlock 0 [] [] 1) (ticked (1 ∷ [])) ≡ Illegal)
 unfolding firstNot isLegal mayBlock canPlan surveyOf
 stuck-before-illegal = (refl, refl)

@@ -1,4 +1,5 @@
--- What the requests of the tables (own, helper, set, rows) do: the tables afterwards, and the answer's line.
+-- What the requests of the tables (own, helper, set, rows) do: the tables
+-- afterwards, and the answer's line.
 use Prim.Native.Nat.{ℕ, _+_, _-_}
 use mathlib.Core.List.{List}
 use lib.Dec.{eqb}
@@ -21,7 +22,8 @@ pub record DeskTables : Type 0 where
 
 -- states, owners, helpers and totals together
 abbrev pub deskTables : List ℕ → List ℕ → List ℕ → List ℕ → DeskTables
-deskTables states owners helpers totals = record { tables = tables states owners helpers; totals = totals }
+deskTables states owners helpers totals =
+    record { tables = tables states owners helpers; totals = totals }
 
 -- the tables afterwards, and the answer's line
 pub record Turn : Type 0 where
@@ -49,16 +51,21 @@ leftBy t sheet = left (t .tables) (pour sheet (t .line))
 abbrev pub rowsLine : List ℕ → ℕ → ℕ → List ℕ
 rowsLine states first last = shown "rows " (octets states first (last + 1 - first))
 
--- the rows from the first to the last hold that octet, and the totals of the blocks that they touch are right
+-- the rows from the first to the last hold that octet, and the totals of the
+-- blocks that they touch are right
 abbrev pub setTurn : DeskTables → ℕ → ℕ → ℕ → DeskTables
 setTurn D first last octet =
     let rows = spread (D .tables .states) first last octet in
     deskTables rows (D .tables .owners) (D .tables .helpers) (recounted rows first last (D .totals))
 
--- the requests of the tables, by what their fields say: own, helper, set, and rows, the family's last
+-- the requests of the tables, by what their fields say: own, helper, set,
+-- and rows, the family's last
 unfoldable pub tableTurn : DeskTables → ℕ → List FieldSays → Turn
 tableTurn D which gs =
-    if eqb which OWN then turn (deskTables (D .tables .states) (spread (D .tables .owners) (numberAt gs 0) (numberAt gs 1) (octetAt gs 2)) (D .tables .helpers) (D .totals)) (said "ok")
-    else if eqb which HELPER then turn (deskTables (D .tables .states) (D .tables .owners) (spread (D .tables .helpers) (numberAt gs 0) (numberAt gs 1) (octetAt gs 2)) (D .totals)) (said "ok")
-    else if eqb which SET then turn (setTurn D (numberAt gs 0) (numberAt gs 1) (octetAt gs 2)) (said "ok")
+    if eqb which OWN
+    then turn (deskTables (D .tables .states) (spread (D .tables .owners) (numberAt gs 0) (numberAt gs 1) (octetAt gs 2)) (D .tables .helpers) (D .totals)) (said "ok")
+    else if eqb which HELPER
+    then turn (deskTables (D .tables .states) (D .tables .owners) (spread (D .tables .helpers) (numberAt gs 0) (numberAt gs 1) (octetAt gs 2)) (D .totals)) (said "ok")
+    else if eqb which SET
+    then turn (setTurn D (numberAt gs 0) (numberAt gs 1) (octetAt gs 2)) (said "ok")
     else turn D (rowsLine (D .tables .states) (numberAt gs 0) (numberAt gs 1))

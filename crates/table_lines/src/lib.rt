@@ -1,4 +1,5 @@
-// What the desk answers to the requests of the tables (own, helper, set, rows), and what they leave in the tables.
+// What the desk answers to the requests of the tables (own, helper, set, rows),
+// and what they leave in the tables.
 ghost use mathlib.Core.Path.{_≡_};
 ghost use mathlib.Core.List.{[]};
 ghost use Prim.Native.Nat.{_+_, _-_};
@@ -24,7 +25,8 @@ fn span(first: u32, last: u32) -> usize
     (last - first) as usize + 1
 }
 
-// Makes each entry of a table that a request names the octet that it says, says so at the front of `out`, and answers the next place.
+// Makes each entry of a table that a request names the octet that it says, says so at the front of
+// `out`, and answers the next place.
 fn spread_asked(request: Request, table: &mut [u8], out: &mut [u8]) -> usize
     ensures { λ r. ⌜ (now (table .exit) ≡ spread (now (table .entry)) (numberAt (saidIn [] (request .fields)) 0) (numberAt (saidIn [] (request .fields)) 1) (octetAt (saidIn [] (request .fields)) 2)) ×
         (sheet (now (out .exit)) r ≡ pour (sheet (now (out .entry)) 0) (said "ok")) ⌝ }
@@ -38,7 +40,9 @@ fn spread_asked(request: Request, table: &mut [u8], out: &mut [u8]) -> usize
 
 // Makes the totals of the blocks that the rows of a request touch right.
 fn recount_asked(request: Request, states: &[u8], totals: &mut [u8])
-    ensures { λ r. ⌜ now (totals .exit) ≡ recounted (now (states .entry)) (numberAt (saidIn [] (request .fields)) 0) (numberAt (saidIn [] (request .fields)) 1) (now (totals .entry)) ⌝ }
+    ensures { λ r. ⌜ now (totals .exit) ≡
+        recounted (now (states .entry)) (numberAt (saidIn [] (request .fields)) 0)
+        (numberAt (saidIn [] (request .fields)) 1) (now (totals .entry)) ⌝ }
 {
     let fields = request.fields;
     let first = fields[0];
@@ -48,7 +52,9 @@ fn recount_asked(request: Request, states: &[u8], totals: &mut [u8])
 
 // Puts the rows that a request names at the front of `out`, and answers the next place.
 fn say_rows(request: Request, states: &[u8], out: &mut [u8]) -> usize
-    ensures { λ r. ⌜ sheet (now (out .exit)) r ≡ pour (sheet (now (out .entry)) 0) (rowsLine (now (states .entry)) (numberAt (saidIn [] (request .fields)) 0) (numberAt (saidIn [] (request .fields)) 1)) ⌝ }
+    ensures { λ r. ⌜ sheet (now (out .exit)) r ≡
+        pour (sheet (now (out .entry)) 0)
+        (rowsLine (now (states .entry)) (numberAt (saidIn [] (request .fields)) 0) (numberAt (saidIn [] (request .fields)) 1)) ⌝ }
 {
     let fields = request.fields;
     let first = fields[0];
@@ -62,7 +68,8 @@ fn say_rows(request: Request, states: &[u8], out: &mut [u8]) -> usize
     )
 }
 
-// Does one of the requests of the tables, puts its line at the front of `out`, and answers the next place. Its fields are numbers, so the scratch says nothing of them.
+// Does one of the requests of the tables, puts its line at the front of `out`, and answers the next
+// place. Its fields are numbers, so the scratch says nothing of them.
 pub fn table_turn(
     request: Request,
     states: &mut [u8],

@@ -1,4 +1,5 @@
-// What a line asks of the desk, by a table of forms: a row for each request, with its word and the kinds of its fields.
+// What a line asks of the desk, by a table of forms: a row for each request,
+// with its word and the kinds of its fields.
 ghost use mathlib.Core.Path.{_≡_};
 ghost use Rattle.forms.specs.Inside.{kindsIn};
 ghost use Rattle.requests.specs.Along.{bad, fieldsOf, taken, takenBy, requestOf};
@@ -25,7 +26,8 @@ fn none() -> Request
 
 // The fields of a line after the word that ends at `end`, by the letters of their kinds.
 fn fields_in(row: Row, line: &[u8], end: usize, scratch: &mut [u8]) -> Request
-    ensures { λ r. ⌜ taken r (now (scratch .exit)) ≡ takenBy (row .which) (fieldsOf (kindsIn 8 (row .letters)) 0 (now (line .entry)) end (now (scratch .entry)) 0) ⌝ }
+    ensures { λ r. ⌜ taken r (now (scratch .exit)) ≡
+        takenBy (row .which) (fieldsOf (kindsIn 8 (row .letters)) 0 (now (line .entry)) end (now (scratch .entry)) 0) ⌝ }
 {
     let which = row.which;
     let mut letters = row.letters;
@@ -66,9 +68,11 @@ fn fields_in(row: Row, line: &[u8], end: usize, scratch: &mut [u8]) -> Request
     none()
 }
 
-// What a line asks. A line that is over 81920 octets long, or that no form fits, asks nothing; so does one whose octets the scratch has no room for, which 41032 octets always have.
+// What a line asks. A line that is over 81920 octets long, or that no form fits, asks nothing; so
+// does one whose octets the scratch has no room for, which 41032 octets always have.
 pub fn request_of(line: &[u8], scratch: &mut [u8]) -> Request
-    ensures { λ r. ⌜ taken r (now (scratch .exit)) ≡ requestOf (now (line .entry)) (now (scratch .entry)) ⌝ }
+    ensures { λ r. ⌜ taken r (now (scratch .exit)) ≡
+        requestOf (now (line .entry)) (now (scratch .entry)) ⌝ }
 {
     if LINE_MOST < line.len() {
         return none();

@@ -1,4 +1,5 @@
--- Any two answers that the contract of `report` allows are one, and the lent buffer holds the same octets afterwards.
+-- Any two answers that the contract of `report` allows are one, and the lent
+-- buffer holds the same octets afterwards.
 use Prim.Native.Nat.{ℕ}
 use mathlib.Core.Path.{_≡_, refl}
 use mathlib.Core.List.{List, [], _∷_, _++_}

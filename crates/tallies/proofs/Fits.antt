@@ -64,6 +64,7 @@ text-fits p t = go (daySized t) (isDone (p .awaits))
     go true false = omega (arith, length-refusal)
     go false c = omega (arith, length-refusal)
 
--- so in a buffer of 16384 octets or more nothing of it is left out: the octets that `report` counts are the text
+-- so in a buffer of 16384 octets or more nothing of it is left out: the octets
+-- that `report` counts are the text
 pub report-whole : (p : Place) (t : Day) (out rest : List ℕ) (n : ℕ) → sheet rest n ≡ pour (sheet out 0) (reportOf p t) → 16384 ≤ length out → take n rest ≡ reportOf p t
 report-whole p t out rest n e h = poured-front out (reportOf p t) rest n e (omega (arith, text-fits p t)) .1

@@ -14,7 +14,9 @@ tally m a r b = record { messages = m; accepted = a; refused = r; busy = b }
 
 -- number by number
 abbrev pub added : Tally → Tally → Tally
-added s t = tally (s .messages + t .messages) (s .accepted + t .accepted) (s .refused + t .refused) (s .busy + t .busy)
+added s t =
+    tally (s .messages + t .messages) (s .accepted + t .accepted) (s .refused + t .refused) (s .busy
+    + t .busy)
 
 -- a number after a space
 abbrev pub spaced : ℕ → List ℕ
@@ -22,7 +24,9 @@ spaced n = counted " " n
 
 -- the four numbers, each after a space, and LF
 unfoldable pub fourNumbers : Tally → List ℕ
-fourNumbers t = spaced (t .messages) ++ (spaced (t .accepted) ++ (spaced (t .refused) ++ (spaced (t .busy) ++ (10 ∷ []))))
+fourNumbers t =
+    spaced (t .messages)
+    ++ (spaced (t .accepted) ++ (spaced (t .refused) ++ (spaced (t .busy) ++ (10 ∷ []))))
 
 -- a sender's line: its number, and its four numbers
 abbrev pub senderLine : ℕ → Tally → List ℕ

@@ -16,7 +16,8 @@ use Rattle.day.specs.Day.{Day, day, daySized, Machine}
 -- how many of the n circuits from c on are q's and busy
 unfoldable pub busyOf : List ℕ → Rows → ℕ → ℕ → ℕ → ℕ
 busyOf owners rows q c zero = 0
-busyOf owners rows q c (suc n) = (if eqb (octet owners c) q then busyAt rows c else 0) + busyOf owners rows q (suc c) n
+busyOf owners rows q c (suc n) =
+    (if eqb (octet owners c) q then busyAt rows c else 0) + busyOf owners rows q (suc c) n
 
 -- a sender's four numbers, by the counters and the tables
 abbrev pub tallyIn : Day → ℕ → Tally

@@ -34,7 +34,8 @@ fn busy_at(owner: u8, state: u8, sender: u8) -> usize
 // How many circuits are a sender's and busy.
 fn busy_of(owners: &[u8], states: &[u8], sender: u8) -> usize
     requires { ⌜ (length (now owners) ≡ 4096) × (length (now states) ≡ 4096) ⌝ }
-    ensures { λ r. ⌜ (r ≡ busyOf (now (owners .entry)) (now (states .entry)) sender 0 4096) × (r ≤ 4096) ⌝ }
+    ensures { λ r. ⌜ (r ≡ busyOf (now (owners .entry)) (now (states .entry)) sender 0 4096)
+        × (r ≤ 4096) ⌝ }
 {
     let mut busy: usize = 0;
     let mut circuit = 0;
@@ -56,7 +57,8 @@ fn counter(counters: &[u16], sender: u8) -> usize
 
 // A sender's four numbers, each 0 where it sent nothing: its circuits are not counted then.
 fn tally_in(sender: u8, owners: &[u8], states: &[u8], accepted: &[u16], refused: &[u16]) -> Tally
-    requires { ⌜ (length (now owners) ≡ 4096) × (length (now states) ≡ 4096) × (length (now accepted) ≡ 256) × (length (now refused) ≡ 256) ⌝ }
+    requires { ⌜ (length (now owners) ≡ 4096) × (length (now states) ≡ 4096)
+        × (length (now accepted) ≡ 256) × (length (now refused) ≡ 256) ⌝ }
     ensures { λ r. ⌜ (r ≡ shownOf (tallyIn (day (now (owners .entry)) (now (states .entry)) (now (accepted .entry)) (now (refused .entry))) sender)) × Below r 1 ⌝ }
 {
     let taken = counter(accepted, sender);
@@ -81,7 +83,8 @@ fn tally_in(sender: u8, owners: &[u8], states: &[u8], accepted: &[u16], refused:
 
 // Puts four numbers, each after a space, and LF.
 fn put_numbers(t: Tally, out: &mut [u8], at: usize) -> usize
-    ensures { λ r. ⌜ sheet (now (out .exit)) r ≡ pour (sheet (now (out .entry)) at) (fourNumbers t) ⌝ }
+    ensures { λ r. ⌜ sheet (now (out .exit)) r ≡
+        pour (sheet (now (out .entry)) at) (fourNumbers t) ⌝ }
 {
     let messages = sayings::put_count(b" ", t.messages, out, at);
     let accepted = sayings::put_count(b" ", t.accepted, out, messages);
@@ -92,7 +95,8 @@ fn put_numbers(t: Tally, out: &mut [u8], at: usize) -> usize
 
 // Puts the line of a sender that sent something.
 fn put_sender(sender: u8, t: Tally, out: &mut [u8], at: usize) -> usize
-    ensures { λ r. ⌜ sheet (now (out .exit)) r ≡ pour (sheet (now (out .entry)) at) (lineOf sender t) ⌝ }
+    ensures { λ r. ⌜ sheet (now (out .exit)) r ≡
+        pour (sheet (now (out .entry)) at) (lineOf sender t) ⌝ }
 {
     if t.messages == 0 {
         return at;
@@ -125,7 +129,8 @@ fn put_lines(
     refused: &[u16],
     out: &mut [u8],
 ) -> usize
-    requires { ⌜ (length (now owners) ≡ 4096) × (length (now states) ≡ 4096) × (length (now accepted) ≡ 256) × (length (now refused) ≡ 256) ⌝ }
+    requires { ⌜ (length (now owners) ≡ 4096) × (length (now states) ≡ 4096)
+        × (length (now accepted) ≡ 256) × (length (now refused) ≡ 256) ⌝ }
     ensures { λ r. ⌜ sheet (now (out .exit)) r ≡ pour (sheet (now (out .entry)) 0)
         (linesFor (tallyIn (day (now (owners .entry)) (now (states .entry)) (now (accepted .entry)) (now (refused .entry))))) ⌝ }
 {
@@ -171,7 +176,8 @@ fn put_refusal(out: &mut [u8]) -> usize
     printing::put_octet(b'\n', out, next)
 }
 
-// The end of the input: puts the lines of a book that has ended, else `refused 24`, at the front of `out`, and answers how many octets were put.
+// The end of the input: puts the lines of a book that has ended, else `refused 24`, at the front of
+// `out`, and answers how many octets were put.
 // What `out` has no room for is left out. Tables of other lengths: no book.
 pub fn report(
     place: Place,

@@ -17,7 +17,8 @@ pub told-whole : (a : Answer ℕ) → In16Bits a → packedLow a ≡ packed a
 told-whole (accepted n) h = omega (arith, h .0 n refl)
 told-whole (refused n at) h = omega (arith, h .1 n at refl)
 
--- so a caller tells a refusal's number and its octet by the number's two halves, and what is accepted by a higher half of 0
+-- so a caller tells a refusal's number and its octet by the number's two halves, and what is
+-- accepted by a higher half of 0
 pub refused-halves : (n at : ℕ) → at ≤ 65535 → (packed (refused n at) / 65536 ≡ n) × (packed (refused n at) % 65536 ≡ at)
 refused-halves n at h = (omega arith, omega arith)
 

@@ -1,4 +1,5 @@
--- Answers as one number: 65536 * N + v, where N is the refusal's number, 0 for what is accepted, and v is what each function says, or the octet that a refusal is about.
+-- Answers as one number: 65536 * N + v, where N is the refusal's number, 0 for what is accepted,
+-- and v is what each function says, or the octet that a refusal is about.
 use Prim.Native.Nat.{ℕ, _+_, _*_, _%_, _≤_}
 use mathlib.Core.Path.{_≡_}
 use Rattle.octets.specs.Answer.{Answer, accepted, refused}

@@ -1,4 +1,6 @@
-// How the functions for C tell an answer by one number of 32 bits: 65536 * N + v, where N is the refusal's number, 0 where there is none, and v what was accepted or the octet that the refusal is about.
+// How the functions for C tell an answer by one number of 32 bits: 65536 * N + v,
+// where N is the refusal's number, 0 where there is none, and v what was accepted or
+// the octet that the refusal is about.
 ghost use mathlib.Core.Path.{_≡_};
 ghost use Prim.Native.Nat.{_+_, _*_, _%_};
 ghost use Rattle.octets.specs.Told.{writtenTold};

@@ -1,4 +1,5 @@
--- What a question looks at: the whole blocks and the loose rows, and no other. With right totals the count is the full count.
+-- What a question looks at: the whole blocks and the loose rows, and no other. With right totals
+-- the count is the full count.
 use Prim.Native.Nat.{ℕ, _+_, _-_, _*_, _/_, _≤_, _<_}
 use mathlib.Core.Path.{_≡_, refl, _∙_, ap}
 use mathlib.Core.Bool.{Bool, true, false}

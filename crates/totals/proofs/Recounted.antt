@@ -33,7 +33,8 @@ module _ (rows : List ℕ) (first last : ℕ) (totals : List ℕ) where
   unfolding recounted
   length-recounted = length-applied _ (first / 64) (last / 64 + 1 - first / 64) totals
 
-  -- the total of each block from that of the first circuit to that of the last is right, whatever it was
+  -- the total of each block from that of the first circuit to that of the last
+  -- is right, whatever it was
   pub recounted-right : (k : ℕ) → first / 64 ≤ k → k ≤ last / 64 → k < length totals → Right rows (recounted rows first last totals) k
   unfolding recounted
   recounted-right k a b h = applied-in _ (first / 64) (last / 64 + 1 - first / 64) totals k a (omega arith) h
@@ -66,7 +67,8 @@ block-same rows rows′ k h =
     total-same (λ i. busy (octet rows′ i)) (λ i. busy (octet rows i)) (64 * k) (64 * k) 64
     (λ j l. ap busy (h (64 * k + j) (omega arith)))
 
--- rows change only in the blocks of a span, and these are counted anew: a total that was right is right for the new rows
+-- rows change only in the blocks of a span, and these are counted anew: a total
+-- that was right is right for the new rows
 pub right-stays : (rows rows′ : List ℕ) (first last : ℕ) (totals : List ℕ)
     → ((i : ℕ) → (i / 64 < first / 64) ⊎ (last / 64 < i / 64) → octet rows′ i ≡ octet rows i)
     → (k : ℕ) → k < length totals → Right rows totals k → Right rows′ (recounted rows′ first last totals) k

@@ -47,7 +47,8 @@ seized = set idle 0 1
 abbrev stepped : List ℕ → List ℕ → List ℕ → List ℕ
 stepped rows rows′ totals = set totals 0 (octet totals 0 + blockCount rows′ 0 - blockCount rows 0)
 
--- the first total says 5 of idle rows. Circuit 0 becomes busy: stepped it says 6, where its rows' count is 1
+-- the first total says 5 of idle rows. Circuit 0 becomes busy: stepped it
+-- says 6, where its rows' count is 1
 pub stepped-stays-wrong : Right seized (stepped idle seized (5 ∷ [])) 0 → ⊥
 unfolding total
 stepped-stays-wrong e = omega (arith, e)

@@ -35,7 +35,8 @@ AllRight rows totals = (k : ℕ) → k < 64 → Right rows totals k
 abbrev pub blocksCounted : List ℕ → ℕ → ℕ → List ℕ → List ℕ
 blocksCounted rows k m totals = applied (λ b old. blockCount rows b) k (m + 1 - k) totals
 
--- the totals where each block that holds one of the circuits from the first to the last is counted anew
+-- the totals where each block that holds one of the circuits from the first
+-- to the last is counted anew
 unfoldable pub recounted : List ℕ → ℕ → ℕ → List ℕ → List ℕ
 recounted rows first last totals = blocksCounted rows (first / 64) (last / 64) totals
 
@@ -47,7 +48,8 @@ allCounted rows totals = recounted rows 0 4095 totals
 abbrev pub sizedTotals : List ℕ → List ℕ → Bool
 sizedTotals states totals = if eqb (length states) 4096 then eqb (length totals) 64 else false
 
--- all 64 blocks counted anew, or 16 where there are not 4096 states and 64 totals; a refusal keeps the totals
+-- all 64 blocks counted anew, or 16 where there are not 4096 states and 64
+-- totals; a refusal keeps the totals
 unfoldable pub rebuildOf : List ℕ → List ℕ → Done ℕ
 rebuildOf states totals =
     if sizedTotals states totals then leaving (accepted 64) (allCounted states totals)

@@ -1,4 +1,5 @@
--- The question as statements and not as a computation: which blocks are whole, which rows are loose, and the sums over all blocks and all circuits.
+-- The question as statements and not as a computation: which blocks are whole, which rows are
+-- loose, and the sums over all blocks and all circuits.
 use Prim.Native.Nat.{ℕ, _+_, _*_, _/_}
 use mathlib.Core.Bool.{Bool, true, false}
 use lib.Dec.{ltb}

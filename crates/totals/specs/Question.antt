@@ -1,4 +1,5 @@
--- A question about the circuits from a to b: whole blocks are taken from the totals, and only loose rows one by one. Order: 16, 9, 18.
+-- A question about the circuits from a to b: whole blocks are taken from the totals, and only loose
+-- rows one by one. Order: 16, 9, 18.
 use Prim.Native.Nat.{ℕ, _+_, _-_, _*_, _/_, _<_}
 use mathlib.Core.List.{List, [], _∷_}
 use lib.Dec.{ltb}
@@ -19,7 +20,8 @@ firstWhole a = (a + 63) / 64
 abbrev pub pastWhole : ℕ → ℕ
 pastWhole b = (b + 1) / 64
 
--- a sum over what a question about a to b looks at: `row` of each loose row, `whole` of each block that lies within a to b
+-- a sum over what a question about a to b looks at: `row` of each loose row,
+-- `whole` of each block that lies within a to b
 unfoldable pub lookedAt : (ℕ → ℕ) → (ℕ → ℕ) → ℕ → ℕ → ℕ
 lookedAt row whole a b =
     if ltb (firstWhole a) (pastWhole b) then
@@ -40,7 +42,8 @@ lookedOf a b = lookedAt (λ i. 1) (λ k. 1) a b
 abbrev pub countBetween : List ℕ → List ℕ → ℕ → ℕ → Count
 countBetween rows totals a b = record { count = busyCount rows totals a b; looked = lookedOf a b }
 
--- the count with how many were looked at, or the number: 16 where there are not 4096 states and 64 totals, 9 where b is above 4095, 18 where a is above b
+-- the count with how many were looked at, or the number: 16 where there are not 4096 states and 64
+-- totals, 9 where b is above 4095, 18 where a is above b
 unfoldable pub busyBetween : List ℕ → List ℕ → ℕ → ℕ → Answer Count
 busyBetween states totals a b =
     if sizedTotals states totals then

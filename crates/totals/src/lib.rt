@@ -1,4 +1,5 @@
-// How many circuits are busy, counted by blocks of 64: definitions and theorems, and what a question answers.
+// How many circuits are busy, counted by blocks of 64: definitions and
+// theorems, and what a question answers.
 
 // How many circuits are busy, and how many totals and rows were looked at for it.
 pub struct Count {

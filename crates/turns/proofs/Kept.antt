@@ -146,7 +146,8 @@ module _ (T : DeskTables) (which : ℕ) (gs : List FieldSays) where
       let f : NotBlocked T which gs = ⊎-elim (λ t. p (eqb-true which BLOCK t)) (λ t. let z = eqb-false which BLOCK t in q (omega (arith, z, n, l, h))) (decided (eqb which BLOCK)) in
       desk-board-keeps (T .tables .states) (T .totals) (numberAt gs 0) (eqb which BLOCK) (lent (numberAt gs 1)) (f .0) (f .1) (f .2) .1
 
-  -- a row changes by `set`, by an `act` that the hub does not refuse, or by a `block` or an `unblock` that is not refused
+  -- a row changes by `set`, by an `act` that the hub does not refuse, or by a `block` or an
+  -- `unblock` that is not refused
   pub states-by : (which ≡ SET → ⊥) → (which ≡ ACT → Refused T gs) → (which ≡ BLOCK → NotBlocked T which gs) → (which ≡ UNBLOCK → NotBlocked T which gs) → turnBy T which gs .tables .tables .states ≡ T .tables .states
   unfolding turnBy actTurn
   states-by h r p q = go (ltb which NUMBER) (ltb which OWN) (ltb which ACT) (eqb which ACT) (leb which UNBLOCK) (leb which VELOCITY-BACK-LONG) (leb which BICC-COMPACT) refl refl refl

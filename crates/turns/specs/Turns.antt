@@ -28,7 +28,8 @@ deskWith held ticks = record { held = held; ticks = ticks }
 
 -- states, owners, helpers, totals and ticks together
 abbrev pub deskFrom : List ℕ → List ℕ → List ℕ → List ℕ → List ℕ → Desk
-deskFrom states owners helpers totals ticks = deskWith (deskTables states owners helpers totals) ticks
+deskFrom states owners helpers totals ticks =
+    deskWith (deskTables states owners helpers totals) ticks
 
 -- what the desk holds afterwards, and the answer's line
 pub record DeskTurn : Type 0 where
@@ -60,15 +61,19 @@ badTurn D = deskTurn D (said "bad line")
 abbrev pub blockTurn : DeskTables → ℕ → List FieldSays → Turn
 blockTurn T which gs =
     let a = blockDone (T .tables .states) (T .totals) which gs in
-    turn (deskTables (a .states) (T .tables .owners) (T .tables .helpers) (a .totals)) (noticeLine (a .answer) (a .buffer))
+    turn (deskTables (a .states) (T .tables .owners) (T .tables .helpers) (a .totals))
+    (noticeLine (a .answer) (a .buffer))
 
 -- what a row past BICC's leaves: of the tables, only the totals change
 abbrev pub furtherTurn : DeskTables → ℕ → List FieldSays → Turn
 furtherTurn T which gs =
     let a = furtherDone (T .tables .states) (T .totals) which gs in
-    turn (deskTables (T .tables .states) (T .tables .owners) (T .tables .helpers) (a .totals)) (a .line)
+    turn (deskTables (T .tables .states) (T .tables .owners) (T .tables .helpers) (a .totals))
+    (a .line)
 
--- a row before `tick`, by its family: the codec's stand before `number`, those for numbers before `own`, those of the tables before `act`, then those that block from our side, then those for velocities, then BICC's, and then the further ones
+-- a row before `tick`, by its family: the codec's stand before `number`, those for numbers before
+-- `own`, those of the tables before `act`, then those that block from our side, then those for
+-- velocities, then BICC's, and then the further ones
 unfoldable pub turnBy : DeskTables → ℕ → List FieldSays → Turn
 turnBy T which gs =
     if ltb which NUMBER then turn T (codecLine which gs)

@@ -51,7 +51,9 @@ fn answer_request(
     further_lines::further_turn(request, octets, states, totals, out)
 }
 
-// The answer's line to a request, those of a maintenance night too: the tables are as the request left them, and the line is at the front of `out`. A row that is none is a bad line. What `out` has no room for is left out.
+// The answer's line to a request, those of a maintenance night too: the tables are as the request
+// left them, and the line is at the front of `out`. A row that is none is a bad line. What `out`
+// has no room for is left out.
 pub fn row_turn(
     request: Request,
     octets: &[u8],

@@ -1,4 +1,5 @@
-// What a word says as a field of a kind: a number up to a limit, an octet, octets, or the word as it is typed.
+// What a word says as a field of a kind: a number up to a limit, an octet,
+// octets, or the word as it is typed.
 ghost use mathlib.Core.Path.{_≡_};
 ghost use Rattle.words.specs.Into.{entry};
 ghost use Rattle.fields.specs.Kinds.{notBelow};
@@ -73,9 +74,11 @@ fn not_below(least: u32, number: Number) -> Number
     }
 }
 
-// Puts a word into the scratch as it is typed, and answers how many octets it has. It has more than 18, or the scratch has no room: nothing is put.
+// Puts a word into the scratch as it is typed, and answers how many octets it has. It has more than
+// 18, or the scratch has no room: nothing is put.
 fn keep_word(word: &[u8], scratch: &mut [u8], next: usize) -> Number
-    ensures { λ r. ⌜ entry r (now (scratch .exit)) ≡ wordInto (now (word .entry)) (now (scratch .entry)) next ⌝ }
+    ensures { λ r. ⌜ entry r (now (scratch .exit)) ≡
+        wordInto (now (word .entry)) (now (scratch .entry)) next ⌝ }
 {
     if TYPED_MOST < word.len() {
         return Number::Not;
@@ -94,9 +97,11 @@ fn keep_word(word: &[u8], scratch: &mut [u8], next: usize) -> Number
     Number::Is(word.len() as u32)
 }
 
-// The number that a word stands for as a field of a kind, after a field that stands for `before`; or how many octets, which are put into the scratch.
+// The number that a word stands for as a field of a kind, after a field that stands for `before`;
+// or how many octets, which are put into the scratch.
 pub fn value_of(letter: u8, before: u32, word: &[u8], scratch: &mut [u8], next: usize) -> Number
-    ensures { λ r. ⌜ entry r (now (scratch .exit)) ≡ entered (kindOf letter) before (now (word .entry)) (now (scratch .entry)) next ⌝ }
+    ensures { λ r. ⌜ entry r (now (scratch .exit)) ≡
+        entered (kindOf letter) before (now (word .entry)) (now (scratch .entry)) next ⌝ }
 {
     if letter == b'o' {
         return digits::octet_of(word);

@@ -1,4 +1,5 @@
--- The codes in the paper's words: bearing N ≤ b < N+1; speed within half of N, a half going up; everything from half below the top takes the top.
+-- The codes in the paper's words: bearing N ≤ b < N+1; speed within half of N, a half going up;
+-- everything from half below the top takes the top.
 use mathlib.Core.Path.{_≡_, refl, sym, ap, _∙_, subst}
 use mathlib.Core.Bool.{true, false}
 use mathlib.Core.Logic.{_⊎_, inl, inr, ⊎-elim, _↔_}

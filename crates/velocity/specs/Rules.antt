@@ -1,4 +1,5 @@
--- Clauses 6.19.1 and 6.19.2 and the request, as statements over exact fractions: no order of steps, no rounding.
+-- Clauses 6.19.1 and 6.19.2 and the request, as statements over exact
+-- fractions: no order of steps, no rounding.
 use mathlib.Core.Path.{_≡_}
 use mathlib.Core.Bool.{Bool, true, false}
 use mathlib.Core.Logic.{_⊎_}
@@ -16,10 +17,12 @@ use Rattle.velocity.specs.declared.Codes.the-variants.{Horizontal, WithV
 use Rattle.velocity.specs.Velocity.{Measured, exactly, none, measured, Stands, alone, beside}
 
 -- ---- the exact fraction that the bits name
--- sign, the exponent's field and the digits: an exponent of 0 is a subnormal, 2047 is an infinity or no number, and the unit is 2 ^ -1074
+-- sign, the exponent's field and the digits: an exponent of 0 is a subnormal, 2047 is an infinity
+-- or no number, and the unit is 2 ^ -1074
 abbrev pub fieldsName : Bool → ℕ → ℕ → Measured
 fieldsName false zero t = exactly t (2 ^ 1074)
-fieldsName false (suc x) t = if eqb (suc x) 2047 then none else exactly ((2 ^ 52 + t) * 2 ^ x) (2 ^ 1074)
+fieldsName false (suc x) t =
+    if eqb (suc x) 2047 then none else exactly ((2 ^ 52 + t) * 2 ^ x) (2 ^ 1074)
 fieldsName true zero zero = exactly 0 1
 fieldsName true zero (suc t) = none
 fieldsName true (suc x) t = none
@@ -70,7 +73,8 @@ abbrev pub CodedAs : Velocity → Codes → Type 0
 CodedAs (Along b s) (Horizontal n k) = BearingIs b n × SpeedIs 65535 s k
 CodedAs (Along b s) (WithVertical n k j mark) = ⊥
 CodedAs (AlongAndUp b s u mark) (Horizontal n k) = ⊥
-CodedAs (AlongAndUp b s u mark) (WithVertical n k j mark′) = BearingIs b n × SpeedIs 65535 s k × SpeedIs 255 u j × (mark ≡ mark′)
+CodedAs (AlongAndUp b s u mark) (WithVertical n k j mark′) =
+    BearingIs b n × SpeedIs 65535 s k × SpeedIs 255 u j × (mark ≡ mark′)
 
 -- ---- refusals
 -- not a number, infinite, or below zero as the language compares (minus zero is not)
@@ -105,12 +109,14 @@ pub record Itself (x : Float) (n : ℕ) : Type 0 where
   pub by : ℕ
   pub value : Fraction x (n * by) by
 
--- R71. what is read is the codes themselves: bearing and speed in the record, vertical speed and mark beside it
+-- R71. what is read is the codes themselves: bearing and speed in the record,
+-- vertical speed and mark beside it
 abbrev pub ReadBack : Codes → Stands → Type 0
 ReadBack (Horizontal b s) (alone c) = Itself (c .bearing) b × Itself (c .speed) s
 ReadBack (Horizontal b s) (beside c x mark) = ⊥
 ReadBack (WithVertical b s u mark) (alone c) = ⊥
-ReadBack (WithVertical b s u mark) (beside c x mark′) = Itself (c .bearing) b × Itself (c .speed) s × Itself x u × (mark ≡ mark′)
+ReadBack (WithVertical b s u mark) (beside c x mark′) =
+    Itself (c .bearing) b × Itself (c .speed) s × Itself x u × (mark ≡ mark′)
 
 -- what is read, as a velocity
 abbrev pub again : Stands → Velocity
@@ -130,7 +136,9 @@ pub record NearBy (x y : Float) : Type 0 where
 
 -- R71. what is read lies within one half of what was measured, for a speed below the top
 pub data Half : Velocity → Codes → Stands → Type 0 where
-  flatly : {b s : Float} {n k : ℕ} {c : Course} → (k < 65535 → NearBy s (c .speed)) → Half (Along b s) (Horizontal n k) (alone c)
+  flatly : {b s : Float} {n k : ℕ} {c : Course} → (k < 65535 → NearBy s (c .speed))
+      → Half (Along b s) (Horizontal n k) (alone c)
   fully :
-      {b s u x : Float} {n k j : ℕ} {c : Course} {mark : Mark} → (k < 65535 → NearBy s (c .speed)) → (j < 255 → NearBy u x)
+      {b s u x : Float} {n k j : ℕ} {c : Course} {mark : Mark} → (k < 65535 → NearBy s (c .speed))
+      → (j < 255 → NearBy u x)
       → Half (AlongAndUp b s u mark) (WithVertical n k j mark) (beside c x mark)

@@ -1,4 +1,5 @@
--- Velocities (Q.1902.3, 6.19.1 and 6.19.2): the exact fraction that a measured value is, the codes, and what codes stand for.
+-- Velocities (Q.1902.3, 6.19.1 and 6.19.2): the exact fraction that a measured value is, the codes,
+-- and what codes stand for.
 use mathlib.Core.Bool.{true, false}
 use Prim.Native.Nat.{ℕ, zero, suc, _+_, _*_, _/_, min}
 use lib.IntN.{pos}
@@ -18,7 +19,8 @@ pub data Measured : Type 0 where
   exactly : ℕ → ℕ → Measured
   none : Measured
 
--- the exact fraction that the bits name: m * 2 ^ e. None for what is no number, infinite or below zero; minus zero is zero
+-- the exact fraction that the bits name: m * 2 ^ e. None for what is no number, infinite or below
+-- zero; minus zero is zero
 unfoldable pub measured : Float → Measured
 measured nan = none
 measured (inf s) = none
@@ -47,12 +49,16 @@ flat b s = record { bearing = b; speed = s }
 
 -- the codes of what was measured along the ground
 unfoldable pub flatOf : Float → Float → Answer Flat
-flatOf b s = bearingOf (measured b) then λ n. (speedOf 65535 (measured s) then λ k. accepted (flat n k))
+flatOf b s =
+    bearingOf (measured b) then λ n. (speedOf 65535 (measured s) then λ k. accepted (flat n k))
 
 -- the codes of a velocity; the mark stands as it was given
 unfoldable pub codesOf : Velocity → Answer Codes
 codesOf (Along b s) = flatOf b s then λ x. accepted (Horizontal (x .bearing) (x .speed))
-codesOf (AlongAndUp b s u mark) = flatOf b s then λ x. (speedOf 255 (measured u) then λ j. accepted (WithVertical (x .bearing) (x .speed) j mark))
+codesOf (AlongAndUp b s u mark) =
+    flatOf b s
+    then λ x. (speedOf 255 (measured u)
+    then λ j. accepted (WithVertical (x .bearing) (x .speed) j mark))
 
 -- the whole number N itself
 abbrev pub wholeOf : ℕ → Float
@@ -62,7 +68,8 @@ wholeOf n = ofInt binary64 (pos n)
 abbrev pub courseOf : ℕ → ℕ → Course
 courseOf b s = record { bearing = wholeOf b; speed = wholeOf s }
 
--- what codes stand for: bearing and speed in one record, and beside it a vertical speed and its mark
+-- what codes stand for: bearing and speed in one record, and beside it a
+-- vertical speed and its mark
 pub data Stands : Type 0 where
   alone : Course → Stands
   beside : Course → Float → Mark → Stands
@@ -70,4 +77,5 @@ pub data Stands : Type 0 where
 -- what codes stand for, below a bearing of 360
 unfoldable pub knownOf : Codes → Answer Stands
 knownOf (Horizontal b s) = if ltb 359 b then refused 26 0 else accepted (alone (courseOf b s))
-knownOf (WithVertical b s u mark) = if ltb 359 b then refused 26 0 else accepted (beside (courseOf b s) (wholeOf u) mark)
+knownOf (WithVertical b s u mark) =
+    if ltb 359 b then refused 26 0 else accepted (beside (courseOf b s) (wholeOf u) mark)

@@ -1,4 +1,5 @@
-// Velocities of calling handsets (Q.1902.3, 6.19): measured values, and the whole numbers that stand for them. Definitions, theorems and types.
+// Velocities of calling handsets (Q.1902.3, 6.19): measured values, and the whole numbers that
+// stand for them. Definitions, theorems and types.
 
 // Which way a vertical speed goes.
 pub enum Mark {
@@ -30,7 +31,8 @@ pub struct Course {
     pub speed: f64,
 }
 
-// What codes stand for: the course, and beside it a vertical speed with its mark; or the refusal's number.
+// What codes stand for: the course, and beside it a vertical speed with its
+// mark; or the refusal's number.
 pub enum Known {
     Horizontal(Course),
     WithVertical(Course, f64, Mark),

@@ -29,8 +29,14 @@ use Rattle.velocity_lines.specs.declared.Marked.the-variants.{Is, Not}
 -- which mark a word is: up, down, or none
 unfoldable pub typedMark : List ℕ → Marked
 typedMark word =
-    if eqb (length word) 2 then (if eqb (getD word 0 0) 117 then (if eqb (getD word 1 0) 112 then Is Upward else Not) else Not)
-    else if eqb (length word) 4 then (if eqb (getD word 0 0) 100 then (if eqb (getD word 1 0) 111 then (if eqb (getD word 2 0) 119 then (if eqb (getD word 3 0) 110 then Is Downward else Not) else Not) else Not) else Not)
+    if eqb (length word) 2
+    then (if eqb (getD word 0 0) 117 then (if eqb (getD word 1 0) 112 then Is Upward else Not)
+    else Not)
+    else if eqb (length word) 4
+    then (if eqb (getD word 0 0) 100
+    then (if eqb (getD word 1 0) 111
+    then (if eqb (getD word 2 0) 119 then (if eqb (getD word 3 0) 110 then Is Downward else Not)
+    else Not) else Not) else Not)
     else Not
 
 -- a mark, after what stands before it
@@ -41,7 +47,8 @@ markWord Downward = said " down"
 -- bearing 359 speed 120 vertical 3 up
 unfoldable pub codesLine : Codes → List ℕ
 codesLine (Horizontal b s) = counted "bearing " b ++ counted " speed " s
-codesLine (WithVertical b s u mark) = counted "bearing " b ++ counted " speed " s ++ counted " vertical " u ++ markWord mark
+codesLine (WithVertical b s u mark) =
+    counted "bearing " b ++ counted " speed " s ++ counted " vertical " u ++ markWord mark
 
 -- codes, or the refusal
 unfoldable pub codedLine : Answer Codes → List ℕ
@@ -50,7 +57,9 @@ codedLine (refused n at) = refusal n
 
 -- the whole number that a value above -1 and below 65536 is, its fraction dropped; 0 for any other
 unfoldable pub wholeIn : Float → ℕ
-wholeIn x = if lt (fin true 1 (pos 0)) x then (if lt x (fin false 1 (pos 16)) then toUnsigned 64 x else 0) else 0
+wholeIn x =
+    if lt (fin true 1 (pos 0)) x then (if lt x (fin false 1 (pos 16)) then toUnsigned 64 x else 0)
+    else 0
 
 -- bearing and speed, which were read back
 unfoldable pub courseLine : Course → List ℕ
@@ -59,7 +68,8 @@ courseLine c = counted "bearing " (wholeIn (c .bearing)) ++ counted " speed " (w
 -- what codes stand for, in the words of the codes, or the refusal
 unfoldable pub knownLine : Answer Stands → List ℕ
 knownLine (accepted (alone c)) = courseLine c
-knownLine (accepted (beside c u mark)) = courseLine c ++ counted " vertical " (wholeIn u) ++ markWord mark
+knownLine (accepted (beside c u mark)) =
+    courseLine c ++ counted " vertical " (wholeIn u) ++ markWord mark
 knownLine (refused n at) = refusal n
 
 -- a line that is no request
@@ -78,7 +88,8 @@ byMark Not line = badLine
 
 -- velocity BEARING SPEED, by its words
 unfoldable pub velocityLine : List ℕ → List ℕ → List ℕ
-velocityLine bearing speed = byValue (realOf bearing) (λ b. byValue (realOf speed) (λ s. codedLine (codesOf (Along b s))))
+velocityLine bearing speed =
+    byValue (realOf bearing) (λ b. byValue (realOf speed) (λ s. codedLine (codesOf (Along b s))))
 
 -- velocity BEARING SPEED VERTICAL MARK
 unfoldable pub velocityLongLine : List ℕ → List ℕ → List ℕ → List ℕ → List ℕ
@@ -97,10 +108,12 @@ backLongLine b s u mark = byMark (typedMark mark) (λ m. knownLine (knownOf (Wit
 abbrev pub codeAt : List FieldSays → ℕ → ℕ
 codeAt gs i = numberAt gs i % 65536
 
--- the line of a row of the family, by what its fields say; the long form of velocity-back is its last
+-- the line of a row of the family, by what its fields say; the long form of
+-- velocity-back is its last
 unfoldable pub velocitiesLine : ℕ → List FieldSays → List ℕ
 velocitiesLine which gs =
     if eqb which VELOCITY then velocityLine (octetsAt gs 0) (octetsAt gs 1)
-    else if eqb which VELOCITY-LONG then velocityLongLine (octetsAt gs 0) (octetsAt gs 1) (octetsAt gs 2) (octetsAt gs 3)
+    else if eqb which VELOCITY-LONG
+    then velocityLongLine (octetsAt gs 0) (octetsAt gs 1) (octetsAt gs 2) (octetsAt gs 3)
     else if eqb which VELOCITY-BACK then backLine (codeAt gs 0) (codeAt gs 1)
     else backLongLine (codeAt gs 0) (codeAt gs 1) (octetAt gs 2) (octetsAt gs 3)

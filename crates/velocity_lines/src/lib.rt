@@ -50,7 +50,8 @@ fn mark_of(word: &[u8]) -> Marked
 
 // Puts a mark, and answers the next place.
 fn put_mark(mark: Mark, out: &mut [u8], at: usize) -> usize
-    ensures { λ r. ⌜ sheet (now (out .exit)) r ≡ pour (sheet (now (out .entry)) at) (markWord mark) ⌝ }
+    ensures { λ r. ⌜ sheet (now (out .exit)) r ≡
+        pour (sheet (now (out .entry)) at) (markWord mark) ⌝ }
 {
     match mark {
         Mark::Upward => printing::put_text(b" up", out, at),
@@ -60,7 +61,8 @@ fn put_mark(mark: Mark, out: &mut [u8], at: usize) -> usize
 
 // Says codes.
 fn say_codes(codes: Codes, out: &mut [u8]) -> usize
-    ensures { λ r. ⌜ sheet (now (out .exit)) r ≡ pour (sheet (now (out .entry)) 0) (codesLine codes) ⌝ }
+    ensures { λ r. ⌜ sheet (now (out .exit)) r ≡
+        pour (sheet (now (out .entry)) 0) (codesLine codes) ⌝ }
 {
     match codes {
         Codes::Horizontal(b, s) => {
@@ -78,7 +80,8 @@ fn say_codes(codes: Codes, out: &mut [u8]) -> usize
 
 // Says codes, or the refusal.
 fn say_coded(coded: Coded, out: &mut [u8]) -> usize
-    ensures { λ r. ⌜ sheet (now (out .exit)) r ≡ pour (sheet (now (out .entry)) 0) (codedLine (codedTold coded)) ⌝ }
+    ensures { λ r. ⌜ sheet (now (out .exit)) r ≡
+        pour (sheet (now (out .entry)) 0) (codedLine (codedTold coded)) ⌝ }
 {
     match coded {
         Coded::As(codes) => say_codes(codes, out),
@@ -88,7 +91,9 @@ fn say_coded(coded: Coded, out: &mut [u8]) -> usize
 
 // Codes two words that are measured values, and says the codes.
 fn say_velocity(bearing: &[u8], speed: &[u8], out: &mut [u8]) -> usize
-    ensures { λ r. ⌜ sheet (now (out .exit)) r ≡ pour (sheet (now (out .entry)) 0) (velocityLine (now (bearing .entry)) (now (speed .entry))) ⌝ }
+    ensures { λ r. ⌜ sheet (now (out .exit)) r ≡
+        pour (sheet (now (out .entry)) 0)
+        (velocityLine (now (bearing .entry)) (now (speed .entry))) ⌝ }
 {
     match reals::real_of(bearing) {
         Real::Not => printing::put_text(b"bad line", out, 0),
@@ -107,7 +112,9 @@ fn say_velocity_long(
     mark: &[u8],
     out: &mut [u8],
 ) -> usize
-    ensures { λ r. ⌜ sheet (now (out .exit)) r ≡ pour (sheet (now (out .entry)) 0) (velocityLongLine (now (bearing .entry)) (now (speed .entry)) (now (vertical .entry)) (now (mark .entry))) ⌝ }
+    ensures { λ r. ⌜ sheet (now (out .exit)) r ≡
+        pour (sheet (now (out .entry)) 0)
+        (velocityLongLine (now (bearing .entry)) (now (speed .entry)) (now (vertical .entry)) (now (mark .entry))) ⌝ }
 {
     match reals::real_of(bearing) {
         Real::Not => printing::put_text(b"bad line", out, 0),
@@ -140,7 +147,8 @@ fn whole(x: f64) -> usize
 
 // Puts bearing and speed at the front, and answers the next place.
 fn put_course(course: Course, out: &mut [u8]) -> usize
-    ensures { λ r. ⌜ sheet (now (out .exit)) r ≡ pour (sheet (now (out .entry)) 0) (courseLine course) ⌝ }
+    ensures { λ r. ⌜ sheet (now (out .exit)) r ≡
+        pour (sheet (now (out .entry)) 0) (courseLine course) ⌝ }
 {
     let bearing = sayings::put_count(b"bearing ", whole(course.bearing), out, 0);
     sayings::put_count(b" speed ", whole(course.speed), out, bearing)
@@ -148,7 +156,8 @@ fn put_course(course: Course, out: &mut [u8]) -> usize
 
 // Says what codes stand for, or the refusal.
 fn say_known(known: Known, out: &mut [u8]) -> usize
-    ensures { λ r. ⌜ sheet (now (out .exit)) r ≡ pour (sheet (now (out .entry)) 0) (knownLine (knownTold known)) ⌝ }
+    ensures { λ r. ⌜ sheet (now (out .exit)) r ≡
+        pour (sheet (now (out .entry)) 0) (knownLine (knownTold known)) ⌝ }
 {
     match known {
         Known::Horizontal(course) => put_course(course, out),
@@ -163,7 +172,9 @@ fn say_known(known: Known, out: &mut [u8]) -> usize
 
 // Reads codes and a word that is a mark, and says what they stand for.
 fn say_back_long(bearing: u16, speed: u16, vertical: u8, mark: &[u8], out: &mut [u8]) -> usize
-    ensures { λ r. ⌜ sheet (now (out .exit)) r ≡ pour (sheet (now (out .entry)) 0) (backLongLine bearing speed vertical (now (mark .entry))) ⌝ }
+    ensures { λ r. ⌜ sheet (now (out .exit)) r ≡
+        pour (sheet (now (out .entry)) 0)
+        (backLongLine bearing speed vertical (now (mark .entry))) ⌝ }
 {
     match mark_of(mark) {
         Marked::Not => printing::put_text(b"bad line", out, 0),
@@ -174,9 +185,12 @@ fn say_back_long(bearing: u16, speed: u16, vertical: u8, mark: &[u8], out: &mut 
     }
 }
 
-// Puts the answer's line to a request for a velocity at the front of `out`, and answers the next place. What `out` has no room for is left out.
+// Puts the answer's line to a request for a velocity at the front of `out`, and answers the next
+// place. What `out` has no room for is left out.
 pub fn velocities_line(request: Request, octets: &[u8], out: &mut [u8]) -> usize
-    ensures { λ r. ⌜ sheet (now (out .exit)) r ≡ pour (sheet (now (out .entry)) 0) (velocitiesLine (request .which) (saidIn (now (octets .entry)) (request .fields))) ⌝ }
+    ensures { λ r. ⌜ sheet (now (out .exit)) r ≡
+        pour (sheet (now (out .entry)) 0)
+        (velocitiesLine (request .which) (saidIn (now (octets .entry)) (request .fields))) ⌝ }
 {
     let fields = request.fields;
     let bearing = fields[0];

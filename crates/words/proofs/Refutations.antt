@@ -1,4 +1,5 @@
--- Wrong programs, each refuted on one word: what it answers is not what the definition says, which stands here.
+-- Wrong programs, each refuted on one word: what it answers is not what the
+-- definition says, which stands here.
 use mathlib.Core.Path.{_≡_, refl}
 use mathlib.Core.List.{[], _∷_}
 use Rattle.words.specs.declared.Number.the-variants.{Is, Not}

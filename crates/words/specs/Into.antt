@@ -1,4 +1,5 @@
--- The octets of a word, put into a lent buffer as its digits are read. `octets-into` of proofs/Into.antt says the same with no order of reading.
+-- The octets of a word, put into a lent buffer as its digits are read. `octets-into` of
+-- proofs/Into.antt says the same with no order of reading.
 use Prim.Native.Nat.{ℕ, _+_, _*_, _-_, _/_, _%_}
 use mathlib.Core.List.{List, [], _∷_}
 use lib.Dec.{ltb, eqb}
@@ -17,7 +18,8 @@ pub record Entry : Type 0 where
 abbrev pub entry : Number → List ℕ → Entry
 entry count left = record { count = count; left = left }
 
--- the digits from the one after n octets on: each two are put as they are read, and an octet that is no digit ends it
+-- the digits from the one after n octets on: each two are put as they are read,
+-- and an octet that is no digit ends it
 unfoldable pub pairsInto : List ℕ → List ℕ → ℕ → ℕ → Entry
 pairsInto [] buffer at n = entry (Is n) buffer
 pairsInto (a ∷ []) buffer at n = entry Not buffer

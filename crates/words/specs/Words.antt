@@ -14,7 +14,8 @@ unfoldable pub wordLength : List ℕ → ℕ
 wordLength [] = 0
 wordLength (c ∷ cs) = if eqb c 32 then 0 else suc (wordLength cs)
 
--- where the word that begins at octet `from` ends: at the first space from there on, or at the line's end
+-- where the word that begins at octet `from` ends: at the first space from
+-- there on, or at the line's end
 abbrev pub wordEnd : List ℕ → ℕ → ℕ
 wordEnd line from = from + wordLength (drop from line)
 
@@ -57,7 +58,9 @@ areOctets most word =
 -- one octet: two hexadecimal digits, the high half first
 unfoldable pub octetOf : List ℕ → Number
 octetOf word =
-    if eqb (length word) 2 then (if allDigits word then Is ((16 * valueOf (getD word 0 0) + valueOf (getD word 1 0)) % 256) else Not)
+    if eqb (length word) 2
+    then (if allDigits word
+    then Is ((16 * valueOf (getD word 0 0) + valueOf (getD word 1 0)) % 256) else Not)
     else Not
 
 -- two digits an octet, the high half first

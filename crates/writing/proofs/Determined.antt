@@ -1,4 +1,5 @@
--- Any two answers that the contract of `write_parts` allows are equal, with the buffer afterwards; and a refusal keeps the buffer.
+-- Any two answers that the contract of `write_parts` allows are equal, with the buffer afterwards;
+-- and a refusal keeps the buffer.
 use Prim.Native.Nat.{ℕ}
 use mathlib.Core.Path.{_≡_}
 use mathlib.Core.List.{List}

@@ -1,4 +1,5 @@
--- Refused exactly when: the number is the first fault in the paper's order, and acceptance is the absence of all.
+-- Refused exactly when: the number is the first fault in the paper's order,
+-- and acceptance is the absence of all.
 use Prim.Native.Nat.{ℕ, _+_, _≤_, _<_}
 use mathlib.Core.Path.{_≡_, refl, sym, _∙_, ap}
 use mathlib.Core.Bool.{Bool, true, false}

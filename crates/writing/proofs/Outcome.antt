@@ -1,4 +1,5 @@
--- What writing comes to, from what was tested and measured on the way: a caller hands over what its calls ensure.
+-- What writing comes to, from what was tested and measured on the way: a
+-- caller hands over what its calls ensure.
 use Prim.Native.Nat.{ℕ, _≤_, _<_}
 use mathlib.Core.Path.{_≡_, refl, sym, _∙_, ap}
 use mathlib.Core.Bool.{Bool, true, false, not}

@@ -1,4 +1,5 @@
--- What a message says, written again, is never longer than the message: so nothing but 12 can stand against it.
+-- What a message says, written again, is never longer than the message: so
+-- nothing but 12 can stand against it.
 use Prim.Native.Nat.{ℕ, _+_, _-_, _≤_, _<_}
 use mathlib.Core.Path.{_≡_, refl, sym, _∙_, ap}
 use mathlib.Core.Bool.{Bool, true, false}
@@ -156,7 +157,8 @@ no-longer m w s p qs head nh l =
     let rz : length (closedRun (partOf m (p .optional))) ≤ size (l .d) = rw (l .holds) (run-size (s .opt) m (endOf w s) qs (l .d) (l .optional)) in
     omega (arith, l .whole)
 
--- reading and writing again gives the compact form, or 12 where that form cannot hold a length or a pointer, and nothing else
+-- reading and writing again gives the compact form, or 12 where that form cannot hold a length or a
+-- pointer, and nothing else
 pub again-or-twelve : (m : List ℕ) (w most : ℕ) (s : Shape) (p : Parts) (qs : List Param) (head : List ℕ) → length head ≡ w → LaidOut m w s p qs → length m ≤ most
     → ((exceeds (marks (s .opt) (contentsIn s (saidWith head m w p)) (partOf m (p .optional))) ≡ true) × (writtenOf s most (saidWith head m w p) ≡ refused 12 0))
     ⊎ ((exceeds (marks (s .opt) (contentsIn s (saidWith head m w p)) (partOf m (p .optional))) ≡ false) × (writtenOf s most (saidWith head m w p) ≡ accepted (length (orderOctets s (saidWith head m w p)), orderOctets s (saidWith head m w p))))

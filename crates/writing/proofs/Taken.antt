@@ -1,4 +1,5 @@
--- What writing accepts, and what it leaves in the lent buffer: a message that reads with the same row.
+-- What writing accepts, and what it leaves in the lent buffer: a message
+-- that reads with the same row.
 use Prim.Native.Nat.{ℕ, _≤_}
 use mathlib.Core.Path.{_≡_, refl, sym, _∙_, ap, subst}
 use mathlib.Core.Bool.{true, false}
@@ -28,7 +29,8 @@ use Rattle.writing.specs.Compact.{Compact, saidBy}
 use Rattle.writing.proofs.Plain.{fits-exactly}
 use Rattle.writing.proofs.Back.{placed, written-laid, written-compact, written-says}
 
--- what is accepted fits the shape, has a whole run, and is the compact form, no longer than the longest message
+-- what is accepted fits the shape, has a whole run, and is the compact form,
+-- no longer than the longest message
 pub record Taken (s : Shape) (most : ℕ) (o : Order) (n : ℕ) (ys : List ℕ) : Type 0 where
   pub fits : Fits s o
   pub whole : isRun (o .run) ≡ true
@@ -51,7 +53,8 @@ written-taken s most o n ys e =
     (λ z. absurd (refused-accepted (z .1)))
     (chosen (isRun (o .run)) (c .1))
 
--- what `write_parts` accepts of a row, `read_parts` accepts with the same row; it is in the compact form and says what was given, octet for octet
+-- what `write_parts` accepts of a row, `read_parts` accepts with the same row; it is in the compact
+-- form and says what was given, octet for octet
 pub write-parts-reads-back : (s : Shape) (most : ℕ) (o : Order) (buffer : List ℕ) (n : ℕ) (left : List ℕ) → writePartsOf s most o buffer ≡ leaving (accepted n) left
     → (p : Parts) × (qs : List Param) × (partsOf (take n left) (length (o .head)) most (Has s) ≡ accepted p) × Compact (take n left) (length (o .head)) s p qs × (saidBy (take n left) (length (o .head)) p ≡ o)
 unfolding writePartsOf

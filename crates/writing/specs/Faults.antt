@@ -11,7 +11,8 @@ use Rattle.runs.specs.Params.{BadRun}
 use Rattle.measuring.specs.Measure.{gap}
 use Rattle.writing.specs.Write.{Order, orderOctets}
 
--- R18. 10: the shape has more than three variable parts, the fixed octets have another count than the shape says, or there are contents for a part that it lacks
+-- R18. 10: the shape has more than three variable parts, the fixed octets have another count than
+-- the shape says, or there are contents for a part that it lacks
 abbrev pub Misfits : Shape → Order → Type 0
 Misfits s o =
     (3 < s .vars)
@@ -21,7 +22,9 @@ Misfits s o =
     ⊎ (((s .vars ≤ 2) × (0 < length (o .third)))
     ⊎ ((s .opt ≡ false) × (0 < length (o .run)))))))
 
--- R18. 12 in plain numbers: contents of more than 255 octets; or a second, a third or the optional pointer that would have to reach further than 255. A pointer reaches over the pointers from itself on and over the parameters before its own
+-- R18. 12 in plain numbers: contents of more than 255 octets; or a second, a third or the optional
+-- pointer that would have to reach further than 255. A pointer reaches over the pointers from
+-- itself on and over the parameters before its own
 abbrev pub Exceeds : Shape → Order → Type 0
 Exceeds s o =
     let a = length (o .first) in
@@ -45,4 +48,5 @@ partsFaults s most o =
 
 -- all of them, 13 last: the lent output is shorter than the octets of the order
 abbrev pub writePartsFaults : Shape → ℕ → Order → List ℕ → List Fault
-writePartsFaults s most o buffer = partsFaults s most o ++ (fault 13 0 (length buffer < length (orderOctets s o)) ∷ [])
+writePartsFaults s most o buffer =
+    partsFaults s most o ++ (fault 13 0 (length buffer < length (orderOctets s o)) ∷ [])

@@ -1,4 +1,5 @@
--- What only the code's own contracts use: each piece of the compact form as it is stored, one after the other.
+-- What only the code's own contracts use: each piece of the compact form as
+-- it is stored, one after the other.
 -- That the pieces together are the compact form of Write.antt is proved in proofs/Plain.antt.
 use Prim.Native.Nat.{ℕ, _+_}
 use mathlib.Core.Path.{_≡_}
@@ -33,7 +34,8 @@ pointerPieces s p =
 
 -- the variable parameters of n that a shape has, and the optional part
 abbrev pub partPieces : ℕ → List ℕ → List ℕ → List ℕ → List ℕ → List ℕ
-partPieces n a b c r = partIf (ltb 0 n) a ++ (partIf (ltb 1 n) b ++ (partIf (ltb 2 n) c ++ closedRun r))
+partPieces n a b c r =
+    partIf (ltb 0 n) a ++ (partIf (ltb 1 n) b ++ (partIf (ltb 2 n) c ++ closedRun r))
 
 -- the header, the type and the fixed octets
 abbrev pub headPieces : List ℕ → ℕ → List ℕ → List ℕ
@@ -41,7 +43,8 @@ headPieces h k f = h ++ ((k ∷ []) ++ f)
 
 -- all of them
 abbrev pub pieces : Shape → Frame → List ℕ → ℕ → List ℕ → List ℕ → List ℕ → List ℕ → List ℕ → List ℕ
-pieces s x h k f a b c r = headPieces h k f ++ (pointerPieces s (x .pointers) ++ partPieces (s .vars) a b c r)
+pieces s x h k f a b c r =
+    headPieces h k f ++ (pointerPieces s (x .pointers) ++ partPieces (s .vars) a b c r)
 
 -- the pointers that the shape has are 255 at the most
 pub record Near (s : Shape) (p : Pointers) : Type 0 where

@@ -1,4 +1,5 @@
--- Writing the compact form: the header, the type, the fixed octets, the pointers, the variable parameters in pointer order right after them, then the optional part.
+-- Writing the compact form: the header, the type, the fixed octets, the pointers, the variable
+-- parameters in pointer order right after them, then the optional part.
 -- The order is the paper's: 10, 11, 12, 2, 13.
 use Prim.Native.Nat.{ℕ, _+_, _≤_}
 use mathlib.Core.Path.{_≡_}
@@ -27,7 +28,8 @@ pub record Order : Type 0 where
 
 -- the order with these parts
 abbrev pub order : List ℕ → ℕ → List ℕ → List ℕ → List ℕ → List ℕ → List ℕ → Order
-order h k f a b c r = record { head = h; kind = k; fixed = f; first = a; second = b; third = c; run = r }
+order h k f a b c r =
+    record { head = h; kind = k; fixed = f; first = a; second = b; third = c; run = r }
 
 -- how many octets there are of these, beside the type and the fixed octets
 abbrev pub lengthsOf : Order → Lengths
@@ -43,7 +45,9 @@ lengthsOf o = record {
 abbrev pub contentsIn : Shape → Order → List (List ℕ)
 contentsIn s o = take (s .vars) (o .first ∷ o .second ∷ o .third ∷ [])
 
--- the pointers to these contents, where the first parameter starts g octets past the first pointer. From one pointer to the next a start moves on by a length octet and the contents, less the octet that the pointer itself moves on
+-- the pointers to these contents, where the first parameter starts g octets past the first pointer.
+-- From one pointer to the next a start moves on by a length octet and the contents, less the octet
+-- that the pointer itself moves on
 unfoldable pub pointers : ℕ → List (List ℕ) → List ℕ
 pointers g [] = []
 pointers g (c ∷ cs) = g ∷ pointers (g + length c) cs
@@ -104,11 +108,13 @@ writtenOf s most o =
     else accepted (length (orderOctets s o), orderOctets s o))
     else refused 11 0
 
--- all that writing does: how many octets were written, or the refusal, 13 last; and the buffer afterwards
+-- all that writing does: how many octets were written, or the refusal, 13
+-- last; and the buffer afterwards
 unfoldable pub writePartsOf : Shape → ℕ → Order → List ℕ → Done ℕ
 writePartsOf s most o buffer = done buffer (writtenOf s most o then roomFor buffer)
 
--- what fits the shape, which has three variable parts at the most: the fixed octets have their count, and a part that the type lacks is empty
+-- what fits the shape, which has three variable parts at the most: the fixed octets have their
+-- count, and a part that the type lacks is empty
 pub record Fits (s : Shape) (o : Order) : Type 0 where
   pub few : s .vars ≤ 3
   pub fixed : length (o .fixed) ≡ s .fixed

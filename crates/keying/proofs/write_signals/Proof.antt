@@ -1,4 +1,5 @@
--- `dialling::write_signals` meets its contract: it lends its buffer to `write_low` (`Lending.antt` of `number`). Assumes nothing.
+-- `dialling::write_signals` meets its contract: it lends its buffer to `write_low` (`Lending.antt`
+-- of `number`). Assumes nothing.
 use mathlib.Core.Path.{_≡_, refl}
 use mathlib.Core.Bool.{false}
 use Prim.Native.Nat.{_≤_, _*_, _+_, _/_}

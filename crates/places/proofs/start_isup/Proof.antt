@@ -1,4 +1,6 @@
--- `start_isup` meets its contract: a walk of its MIR, by hand. `isup_place` is called on the slice, and `resume` on the slice and the number that it answers. All that the proof knows of the two is that each meets its contract.
+-- `start_isup` meets its contract: a walk of its MIR, by hand. `isup_place` is called on the slice,
+-- and `resume` on the slice and the number that it answers. All that the proof knows of the two is
+-- that each meets its contract.
 -- A `&[u8]` is Copy, so what it owns is had once for each call, and once for the exit.
 -- Assumes nothing.
 use mathlib.Core.Path.{_≡_, refl, ap, _∙_}

@@ -27,7 +27,8 @@ abbrev put-digits-below : ℕ → In 1 put-digits-kinds.ps
 put-digits-below t =
     and 1 put-digits-kinds.ps (falls 1 put-digits-kinds.ps _<_ μ-put-digits t) put-digits.Pre
 
--- where the arms meet: the buffer has its length, and with the last digit it holds the whole's digits
+-- where the arms meet: the buffer has its length, and with the last digit it
+-- holds the whole's digits
 met : (t : ℕ) (c : put-digits-lts.Joined2 (
   put-digits-below t,
   put-digits.Post,

@@ -1,4 +1,5 @@
--- `number::read_signals` meets its contract: it lends its buffer to `read_low` (`Lending.antt`). Assumes nothing.
+-- `number::read_signals` meets its contract: it lends its buffer to `read_low`
+-- (`Lending.antt`). Assumes nothing.
 use mathlib.Core.Path.{_≡_, refl}
 use Prim.Native.Nat.{_≤_, _*_, _+_}
 use native.Mathlib.Omega.{arith}

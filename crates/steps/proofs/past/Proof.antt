@@ -1,5 +1,8 @@
--- `past` meets its contract: a walk of its MIR, by hand. The struct is taken apart; `place_after` is called on the slice and the number, and `resume` on the slice and what it answers. All that the proof knows of the two is that each meets its contract.
--- The struct is Copy: what it owns is had once for each call, and one copy is kept whole for the exit.
+-- `past` meets its contract: a walk of its MIR, by hand. The struct is taken apart; `place_after`
+-- is called on the slice and the number, and `resume` on the slice and what it answers. All that
+-- the proof knows of the two is that each meets its contract.
+-- The struct is Copy: what it owns is had once for each call, and one copy
+-- is kept whole for the exit.
 -- Assumes nothing.
 use mathlib.Core.Path.{_≡_, refl, ap, _∙_}
 use Prim.Native.Nat.{ℕ, _<_, _^_}
@@ -156,7 +159,8 @@ module _ {M : Type 1} (𝓤 : URA M) (H : Heap 𝓤) (A : Atoms 𝓤) (W : Given
         calls-at ! fm (Place 𝓤 H A mem run) known to (and-then ! (load ! (from ! (stop !)) (look ! 4 refl)) (and-then ! (load ! (from ! (stop !)) (look ! 2 refl)) (no-more !))) (λ u.
         use1 W (later (some (λ (r : ℕ). ((‵ (flft κ q) ⊛ ‵ ftrue) ⊛ ‵ (usize .own r (u ∷ []))) ⊛ raw (ensured 𝓤 H A step.ended (step.clauses 𝓤 H A mem run) (κ, tt) (d .message, (d .at, tt)) tt r)))) (id⊢ 𝓤 _) $ await ! tt $ pick ! (λ r.
         split ! $ move ! (1 ∷ []) $ use1 W (raw (fact 𝓤 (r ≡ place))) (place-said r) $ heard ! (r ≡ place) (λ e. split ! $ move ! (1 ∷ []) $
-        -- [what the number owns; the token; what the struct owns; _5; …; _4; …; room for _3; …; _2; …; _1; …; room for _0; …]
+        -- [what the number owns; the token; what the struct owns; _5; …; _4; …; room for _3; …; _2;
+        -- …; _1; …; room for _0; …]
         peeks ! usize (Is usize) (shows 𝓤 H A usize) r (u ∷ []) (λ is.
         land ! (from ! (stop !)) (init ! 7 refl (uint-lawful 𝓤 H A W w64 .typed r _ is .0)) $ rewrite ! 7 (λ (z : Val). ‵ (fat fullShare (tyInt w64) l₃ 0 z)) (ap only (is .0)) refl $
         use3 W (raw (Resume 𝓤 H A mem run .pre (to-resume r)) ⊛ ‵ Own) (apart-resume r u (is .1)) $ split ! $
