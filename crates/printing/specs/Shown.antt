@@ -14,7 +14,7 @@ unfoldable pub decimalIn : ℕ → ℕ → List ℕ
 decimalIn zero n = []
 decimalIn (suc k) n = (if ltb 9 n then decimalIn k (n / 10) else []) ++ ((48 + n % 10) ∷ [])
 
--- a number in decimal digits; ten are enough for each of 32 bits
+-- a number in decimal digits, the last ten if it has more: every number of 32 bits is shown whole
 abbrev pub decimalOf : ℕ → List ℕ
 decimalOf n = decimalIn 10 n
 

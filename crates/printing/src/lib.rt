@@ -46,7 +46,7 @@ fn put_digits(places: u8, number: usize, out: &mut [u8], at: usize) -> usize
     put_octet(b'0' + (number % 10) as u8, out, next)
 }
 
-// Puts a number in decimal digits, and answers the next place.
+// Puts a number in decimal digits, the last ten if it has more, and answers the next place.
 pub fn put_number(number: usize, out: &mut [u8], at: usize) -> usize
     ensures { λ r. ⌜ sheet (now (out .exit)) r ≡
         pour (sheet (now (out .entry)) at) (decimalOf number) ⌝ }
