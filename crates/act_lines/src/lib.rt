@@ -1,4 +1,6 @@
 // What the desk answers to the hub's request (act), and what it leaves in the tables.
+#![tactic(auto)]
+
 ghost use Rattle.std.specs.Prelude.{◌≡◌};
 ghost use Rattle.octets.specs.Told.{written_told};
 ghost use Rattle.printing.specs.Sheet.{sheet, pour};

@@ -1,5 +1,7 @@
 // The hub for whoever keeps nothing beside the rows: the answer's octets are counted, and which
 // circuits were named is not told.
+#![tactic(auto)]
+
 ghost use Rattle.std.specs.Prelude.{◌≡◌};
 ghost use Rattle.octets.specs.Told.{written_told};
 ghost use Rattle.rights.specs.Tables.{tables};

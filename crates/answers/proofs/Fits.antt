@@ -7,7 +7,7 @@ use native.Mathlib.Omega.{arith}
 use borrow.Author.Tests.{le-ltb, eqb-true, ne_eqb}
 use lib.Dec.{eqb}
 use lib.ListN.{length, take, length-append}
-use Rattle.octets.specs.Choice.{if◌then◌else◌}
+use Rattle.octets.specs.Choice.{when◌then◌else◌}
 use Rattle.printing.specs.Sheet.{sheet, pour}
 use Rattle.printing.proofs.Pours.{pour-one, pour-append}
 use Rattle.forms.specs.Rows.{TICK, CHECK}
@@ -41,7 +41,7 @@ answer-fits line D = go (eqb states 4096) (eqb (length D.held.tables.owners) 409
     totals = length D.held.totals
 
     go : (s o h t u : Bool) → eqb states 4096 ≡ s → eqb totals 64 ≡ t
-        → length (if (if s then (if o then (if h then (if t then u else false) else false) else false) else false) then turn_for D (asked_of line) else desk_turn D (refusal 16)).line ≤ 80000
+        → length (when (when s then (when o then (when h then (when t then u else false) else false) else false) else false) then turn_for D (asked_of line) else desk_turn D (refusal 16)).line ≤ 80000
     go true true true true true e f = asked-fits D (omega (arith, eqb-true states 4096 e)) (omega (arith, eqb-true totals 64 f)) (asked_of line) (short line)
     go true true true true false e f = omega (arith, counted-length "refused " 16)
     go true true true false u e f = omega (arith, counted-length "refused " 16)

@@ -3,7 +3,7 @@ use Prim.Native.Nat.{ℕ}
 use mathlib.Core.Path.{◌≡◌, refl, sym, ◌∙◌, ap, subst}
 use mathlib.Core.Bool.{Bool, true, false}
 use mathlib.Core.List.{List}
-use Rattle.octets.specs.Choice.{if◌then◌else◌}
+use Rattle.octets.specs.Choice.{when◌then◌else◌}
 use Rattle.fields.specs.Kinds.{FieldSays}
 use Rattle.forms.specs.Rows.{OWN, HELPER, SET, ACT, BLOCK, UNBLOCK, TOTAL, REBUILD, TICK}
 use Rattle.requests.specs.Words.{Asked, asks, nothing, asked_of}
@@ -19,7 +19,7 @@ module _ (line : List ℕ) (D : Desk) where
   unfolding turn_of
   bad-line-keeps e = go (desk_sized D)
     where
-      go : (t : Bool) → (if t then turn_for D (asked_of line) else desk_turn D (refusal 16)).desk ≡ D
+      go : (t : Bool) → (when t then turn_for D (asked_of line) else desk_turn D (refusal 16)).desk ≡ D
       go true = ap (λ (a : Asked). (turn_for D a).desk) e
       go false = refl
 
@@ -28,7 +28,7 @@ module _ (line : List ℕ) (D : Desk) where
   unfolding turn_of
   owners-kept h = go (desk_sized D) (asked_of line) refl
     where
-      go : (t : Bool) (a : Asked) → asked_of line ≡ a → (if t then turn_for D a else desk_turn D (refusal 16)).desk.held.tables.owners ≡ D.held.tables.owners
+      go : (t : Bool) (a : Asked) → asked_of line ≡ a → (when t then turn_for D a else desk_turn D (refusal 16)).desk.held.tables.owners ≡ D.held.tables.owners
       go true (asks which gs) e = held_by D which gs (λ (U : DeskTables). U.tables.owners ≡ D.held.tables.owners) (owners-by D.held which gs (λ w. h gs (e ∙ ap (λ (n : ℕ). asks n gs) w))) refl
       go true nothing e = refl
       go false a e = refl
@@ -38,7 +38,7 @@ module _ (line : List ℕ) (D : Desk) where
   unfolding turn_of
   helpers-kept h = go (desk_sized D) (asked_of line) refl
     where
-      go : (t : Bool) (a : Asked) → asked_of line ≡ a → (if t then turn_for D a else desk_turn D (refusal 16)).desk.held.tables.helpers ≡ D.held.tables.helpers
+      go : (t : Bool) (a : Asked) → asked_of line ≡ a → (when t then turn_for D a else desk_turn D (refusal 16)).desk.held.tables.helpers ≡ D.held.tables.helpers
       go true (asks which gs) e = held_by D which gs (λ (U : DeskTables). U.tables.helpers ≡ D.held.tables.helpers) (helpers-by D.held which gs (λ w. h gs (e ∙ ap (λ (n : ℕ). asks n gs) w))) refl
       go true nothing e = refl
       go false a e = refl
@@ -50,7 +50,7 @@ module _ (line : List ℕ) (D : Desk) where
   unfolding turn_of
   states-kept h r p q = go (desk_sized D) (asked_of line) refl
     where
-      go : (t : Bool) (a : Asked) → asked_of line ≡ a → (if t then turn_for D a else desk_turn D (refusal 16)).desk.held.tables.states ≡ D.held.tables.states
+      go : (t : Bool) (a : Asked) → asked_of line ≡ a → (when t then turn_for D a else desk_turn D (refusal 16)).desk.held.tables.states ≡ D.held.tables.states
       go true (asks which gs) e =
           held_by D which gs (λ (U : DeskTables). U.tables.states ≡ D.held.tables.states)
           (states-by D.held which gs (λ w. h gs (e ∙ ap (λ (n : ℕ). asks n gs) w)) (λ w. r gs (e ∙ ap (λ (n : ℕ). asks n gs) w))
@@ -67,7 +67,7 @@ module _ (line : List ℕ) (D : Desk) where
   unfolding turn_of
   totals-kept h r p q t k = go (desk_sized D) (asked_of line) refl
     where
-      go : (b : Bool) (a : Asked) → asked_of line ≡ a → (if b then turn_for D a else desk_turn D (refusal 16)).desk.held.totals ≡ D.held.totals
+      go : (b : Bool) (a : Asked) → asked_of line ≡ a → (when b then turn_for D a else desk_turn D (refusal 16)).desk.held.totals ≡ D.held.totals
       go true (asks which gs) e =
           held_by D which gs (λ (U : DeskTables). U.totals ≡ D.held.totals)
           (totals-by D.held which gs (λ w. h gs (e ∙ ap (λ (n : ℕ). asks n gs) w)) (λ w. r gs (e ∙ ap (λ (n : ℕ). asks n gs) w))
@@ -84,7 +84,7 @@ module _ (line : List ℕ) (D : Desk) where
   unfolding turn_of
   ticks-kept h = go (desk_sized D) (asked_of line) refl
     where
-      go : (t : Bool) (a : Asked) → asked_of line ≡ a → (if t then turn_for D a else desk_turn D (refusal 16)).desk.ticks ≡ D.ticks
+      go : (t : Bool) (a : Asked) → asked_of line ≡ a → (when t then turn_for D a else desk_turn D (refusal 16)).desk.ticks ≡ D.ticks
       go true (asks which gs) e = ticks-by D which gs (λ w. h gs (e ∙ ap (λ (n : ℕ). asks n gs) w))
       go true nothing e = refl
       go false a e = refl

@@ -6,7 +6,7 @@ use mathlib.Core.List.{List}
 use borrow.Author.Tests.{lt-ltb, le-ltb, eqb-true}
 use lib.Dec.{eqb}
 use lib.ListN.{length}
-use Rattle.octets.specs.Choice.{if◌then◌else◌}
+use Rattle.octets.specs.Choice.{when◌then◌else◌}
 use Rattle.requests.specs.declared.Request.{Request}
 use Rattle.requests.specs.Words.{asks, nothing, asked_of}
 use Rattle.requests.specs.Along.{taken, request_of_lem, said_in, says_of}
@@ -23,7 +23,7 @@ says-turn D r s = go (eqb r.which 255) refl
     none : r.which ≡ 255 → row_turn_lem D r.which (said_in s r.fields) ≡ bad_turn D
     none e = rw e refl
 
-    go : (t : Bool) → eqb r.which 255 ≡ t → row_turn_lem D r.which (said_in s r.fields) ≡ turn_for D (if t then nothing else asks r.which (said_in s r.fields))
+    go : (t : Bool) → eqb r.which 255 ≡ t → row_turn_lem D r.which (said_in s r.fields) ≡ turn_for D (when t then nothing else asks r.which (said_in s r.fields))
     go true e = none (eqb-true r.which 255 e)
     go false e = refl
 

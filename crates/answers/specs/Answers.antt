@@ -1,6 +1,6 @@
 -- What the desk does with a line: the tables afterwards, and the answer's line.
 use Rattle.std.specs.Prelude.{ℕ, Bool, List, ltb, length}
-use Rattle.octets.specs.Choice.{if◌then◌else◌}
+use Rattle.octets.specs.Choice.{when◌then◌else◌}
 use Rattle.printing.specs.Sheet.{put}
 use Rattle.requests.specs.Words.{Asked, asks, nothing, asked_of}
 use Rattle.lines.specs.Lines.{refusal}
@@ -26,11 +26,11 @@ turn_for D nothing = bad_turn D
 -- a line; 16 for tables or ticks that are not exactly 4096 octets, or totals
 -- that are not 64, whatever is asked
 unfoldable pub turn_of : List ℕ → Desk → DeskTurn
-turn_of line D = if desk_sized D then turn_for D (asked_of line) else desk_turn D (refusal 16)
+turn_of line D = when desk_sized D then turn_for D (asked_of line) else desk_turn D (refusal 16)
 
 -- the same with so many octets of scratch: with too few, every line is a bad one
 abbrev pub turn_in : ℕ → List ℕ → Desk → DeskTurn
-turn_in scratch line D = if ltb scratch scratch_least then bad_turn D else turn_of line D
+turn_in scratch line D = when ltb scratch scratch_least then bad_turn D else turn_of line D
 
 -- what a turn leaves, with the line's LF
 abbrev pub with_line_end : DeskLeft → DeskLeft

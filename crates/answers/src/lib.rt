@@ -1,5 +1,7 @@
 // What the desk answers to a line. The proved libraries do the work, and the answer is written as a
 // line into a lent buffer.
+#![tactic(auto)]
+
 ghost use Rattle.std.specs.Prelude.{◌≡◌, length};
 ghost use Rattle.printing.specs.Sheet.{sheet};
 ghost use Rattle.turns.specs.Turns.{desk_from, desk_left, desk_left_by};

@@ -8,7 +8,7 @@ use mathlib.Core.Logic.{◌⊎◌, inl, inr, ⊎_elim}
 use borrow.Author.Tests.{eq-eqb, ne_eqb, eqb-true, eqb-false}
 use native.Mathlib.Omega.{arith}
 use lib.Dec.{eqb}
-use Rattle.octets.specs.Choice.{if◌then◌else◌}
+use Rattle.octets.specs.Choice.{when◌then◌else◌}
 use Rattle.octets.proofs.Choice.{decided}
 use Rattle.arrival.specs.Calls.{Calls, Agree, Apart, Has, Separate, state_after, answers, answers_of, calls_of, replaced, Merged}
 
@@ -19,7 +19,7 @@ module _ (K : Calls) where
   own-has [] q d h = absurd h
   own-has (c ∷ cs) q d h = go (eqb (K.party c) q) refl (λ k. own-has cs q d k) h
     where
-      go : (b : Bool) → eqb (K.party c) q ≡ b → (Has K d (calls_of K q cs) → Has K d cs × (K.party d ≡ q)) → Has K d (if b then c ∷ calls_of K q cs else calls_of K q cs) → Has K d (c ∷ cs) × (K.party d ≡ q)
+      go : (b : Bool) → eqb (K.party c) q ≡ b → (Has K d (calls_of K q cs) → Has K d cs × (K.party d ≡ q)) → Has K d (when b then c ∷ calls_of K q cs else calls_of K q cs) → Has K d (c ∷ cs) × (K.party d ≡ q)
       go true e ih k = ⊎_elim (λ z. (inl z, ap K.party z ∙ eqb-true _ _ e)) (λ z. let r = ih z in (inr r.0, r.1)) k
       go false e ih k = let r = ih k in (inr r.0, r.1)
 
@@ -28,7 +28,7 @@ module _ (K : Calls) where
   has-own [] d h = absurd h
   has-own (c ∷ cs) d h = go (eqb (K.party c) (K.party d)) refl (λ k. has-own cs d k) h
     where
-      go : (b : Bool) → eqb (K.party c) (K.party d) ≡ b → (Has K d cs → Has K d (calls_of K (K.party d) cs)) → Has K d (c ∷ cs) → Has K d (if b then c ∷ calls_of K (K.party d) cs else calls_of K (K.party d) cs)
+      go : (b : Bool) → eqb (K.party c) (K.party d) ≡ b → (Has K d cs → Has K d (calls_of K (K.party d) cs)) → Has K d (c ∷ cs) → Has K d (when b then c ∷ calls_of K (K.party d) cs else calls_of K (K.party d) cs)
       go true e ih k = ⊎_elim (λ z. inl z) (λ z. inr (ih z)) k
       go false e ih k = ⊎_elim (λ z. absurd (eqb-false _ _ e (ap K.party (sym z)))) ih k
 
@@ -37,7 +37,7 @@ module _ (K : Calls) where
   none_answers [] q s e = refl
   none_answers (c ∷ cs) q s e = go (eqb (K.party c) q) (λ k. none_answers cs q (K.after c s) k) e
     where
-      go : (b : Bool) → (calls_of K q cs ≡ [] → answers_of K q cs (K.after c s) ≡ []) → (if b then c ∷ calls_of K q cs else calls_of K q cs) ≡ [] → (if b then K.answer c s ∷ answers_of K q cs (K.after c s) else answers_of K q cs (K.after c s)) ≡ []
+      go : (b : Bool) → (calls_of K q cs ≡ [] → answers_of K q cs (K.after c s) ≡ []) → (when b then c ∷ calls_of K q cs else calls_of K q cs) ≡ [] → (when b then K.answer c s ∷ answers_of K q cs (K.after c s) else answers_of K q cs (K.after c s)) ≡ []
       go true ih k = let z : ◌≡◌ {A = ℕ} 0 1 = cc in absurd (omega arith)
       go false ih k = ih k
 
@@ -47,7 +47,7 @@ module _ (K : Calls) where
   merged-calls [] ls m q = sym (m q)
   merged-calls (c ∷ cs) ls m q = go (eqb (K.party c) q) refl (merged-calls cs (replaced K ls (K.party c) m.0) m.2 q)
     where
-      go : (b : Bool) → eqb (K.party c) q ≡ b → calls_of K q cs ≡ replaced K ls (K.party c) m.0 q → (if b then c ∷ calls_of K q cs else calls_of K q cs) ≡ ls q
+      go : (b : Bool) → eqb (K.party c) q ≡ b → calls_of K q cs ≡ replaced K ls (K.party c) m.0 q → (when b then c ∷ calls_of K q cs else calls_of K q cs) ≡ ls q
       go true e h =
           let p : K.party c ≡ q = eqb-true _ _ e in
           let r : calls_of K q cs ≡ m.0 = h ∙ simp (eq-eqb _ _ (sym p)) in
@@ -64,10 +64,10 @@ module _ (K : Calls) where
     merged-so cs (replaced K ls (K.party c) (calls_of K (K.party c) cs)) (λ q. go q (eqb q (K.party c)) refl),
   )
     where
-      go : (q : ℕ) (b : Bool) → eqb q (K.party c) ≡ b → calls_of K q cs ≡ (if b then calls_of K (K.party c) cs else ls q)
+      go : (q : ℕ) (b : Bool) → eqb q (K.party c) ≡ b → calls_of K q cs ≡ (when b then calls_of K (K.party c) cs else ls q)
       go q true e = ap (λ (p : ℕ). calls_of K p cs) (eqb-true _ _ e)
       go q false e =
-          let g : (if eqb (K.party c) q then c ∷ calls_of K q cs else calls_of K q cs) ≡ ls q = h q in
+          let g : (when eqb (K.party c) q then c ∷ calls_of K q cs else calls_of K q cs) ≡ ls q = h q in
           rw (ne_eqb (K.party c) q (λ y. eqb-false _ _ e (sym y))) at g
 
   -- two merges of the same lists have the same calls
@@ -120,8 +120,8 @@ module _ (K : Calls) where
         go (eqb (K.party c) q) refl (λ s t. isolated cs q (λ d h. z d (inr h)) s t)
       where
         go : (b : Bool) → eqb (K.party c) q ≡ b → ((s t : K.State) → Agree K q s t → (answers_of K q cs s ≡ answers K (calls_of K q cs) t) × Agree K q (state_after K cs s) (state_after K (calls_of K q cs) t))
-            → ((if b then K.answer c s ∷ answers_of K q cs (K.after c s) else answers_of K q cs (K.after c s)) ≡ answers K (if b then c ∷ calls_of K q cs else calls_of K q cs) t)
-            × Agree K q (state_after K cs (K.after c s)) (state_after K (if b then c ∷ calls_of K q cs else calls_of K q cs) t)
+            → ((when b then K.answer c s ∷ answers_of K q cs (K.after c s) else answers_of K q cs (K.after c s)) ≡ answers K (when b then c ∷ calls_of K q cs else calls_of K q cs) t)
+            × Agree K q (state_after K cs (K.after c s)) (state_after K (when b then c ∷ calls_of K q cs else calls_of K q cs) t)
         go true e ih =
             let y = own q c s t (eqb-true _ _ e) a in
             let r = ih (K.after c s) (K.after c t) y.1 in

@@ -5,7 +5,7 @@ use mathlib.Core.Path.{◌≡◌, refl, sym, ◌∙◌, ap}
 use mathlib.Core.Bool.{Bool, true, false}
 use mathlib.Core.List.{List, [], ◌∷◌}
 use lib.Dec.{eqb}
-use Rattle.octets.specs.Choice.{if◌then◌else◌}
+use Rattle.octets.specs.Choice.{when◌then◌else◌}
 use Rattle.arrival.specs.Calls.{Calls, Apart, Separate, state_after, answers_of, Merged}
 use Rattle.arrival.specs.Totals.{Totals}
 use Rattle.arrival.specs.Pair.{Local}
@@ -27,8 +27,8 @@ module _ (K : Calls) where
           sizes = K.sizes;
           Row = K.Row;
           row = K.row;
-          party = λ b. if b then 0 else 1;
-          holds = λ q i. if eqb q 0 then names c i else names d i;
+          party = λ b. when b then 0 else 1;
+          holds = λ q i. when eqb q 0 then names c i else names d i;
           answer = λ b s. K.answer (which b) s;
           after = λ b s. K.after (which b) s;
         }
@@ -40,12 +40,12 @@ module _ (K : Calls) where
       keeps = λ b s. keeps b s;
     }
       where
-        sees : (b : Bool) (s t : K.State) → (K.sizes s ≡ K.sizes t) × ((i : ℕ) → (if eqb (if b then 0 else 1) 0 then names c i else names d i) ≡ true → K.row s i ≡ K.row t i)
-            → (K.answer (which b) s ≡ K.answer (which b) t) × ((K.sizes (K.after (which b) s) ≡ K.sizes (K.after (which b) t)) × ((i : ℕ) → (if eqb (if b then 0 else 1) 0 then names c i else names d i) ≡ true → K.row (K.after (which b) s) i ≡ K.row (K.after (which b) t) i))
+        sees : (b : Bool) (s t : K.State) → (K.sizes s ≡ K.sizes t) × ((i : ℕ) → (when eqb (when b then 0 else 1) 0 then names c i else names d i) ≡ true → K.row s i ≡ K.row t i)
+            → (K.answer (which b) s ≡ K.answer (which b) t) × ((K.sizes (K.after (which b) s) ≡ K.sizes (K.after (which b) t)) × ((i : ℕ) → (when eqb (when b then 0 else 1) 0 then names c i else names d i) ≡ true → K.row (K.after (which b) s) i ≡ K.row (K.after (which b) t) i))
         sees true s t a = let r = L.sees c s t a.0 a.1 in (r.0, (L.sized c s ∙ a.0 ∙ sym (L.sized c t), r.1))
         sees false s t a = let r = L.sees d s t a.0 a.1 in (r.0, (L.sized d s ∙ a.0 ∙ sym (L.sized d t), r.1))
 
-        keeps : (b : Bool) (s : K.State) → (K.sizes (K.after (which b) s) ≡ K.sizes s) × ((i : ℕ) → (if eqb (if b then 0 else 1) 0 then names c i else names d i) ≡ false → K.row (K.after (which b) s) i ≡ K.row s i)
+        keeps : (b : Bool) (s : K.State) → (K.sizes (K.after (which b) s) ≡ K.sizes s) × ((i : ℕ) → (when eqb (when b then 0 else 1) 0 then names c i else names d i) ≡ false → K.row (K.after (which b) s) i ≡ K.row s i)
         keeps true s = (L.sized c s, λ i h. L.keeps c s i h)
         keeps false s = (L.sized d s, λ i h. L.keeps d s i h)
 
@@ -61,15 +61,15 @@ module _ (K : Calls) where
 
     -- each of them has one call
     lists : ℕ → List Bool
-    lists q = if eqb q 0 then true ∷ [] else if eqb q 1 then false ∷ [] else []
+    lists q = when eqb q 0 then true ∷ [] else when eqb q 1 then false ∷ [] else []
 
-    none_left : (x y : Bool) → (if y then [] else if x then [] else if x then true ∷ [] else if y then false ∷ [] else []) ≡ []
+    none_left : (x y : Bool) → (when y then [] else when x then [] else when x then true ∷ [] else when y then false ∷ [] else []) ≡ []
     none_left true true = refl
     none_left true false = refl
     none_left false true = refl
     none_left false false = refl
 
-    none-left' : (x y : Bool) → (if x then [] else if y then [] else if x then true ∷ [] else if y then false ∷ [] else []) ≡ []
+    none-left' : (x y : Bool) → (when x then [] else when y then [] else when x then true ∷ [] else when y then false ∷ [] else []) ≡ []
     none-left' true true = refl
     none-left' true false = refl
     none-left' false true = refl
@@ -87,7 +87,7 @@ module _ (K : Calls) where
       separate : Separate pair (true ∷ false ∷ [])
       separate x y h k i = go x y
         where
-          go : (x y : Bool) → (if eqb (if x then 0 else 1) 0 then names c i else names d i) ≡ true → (if eqb (if y then 0 else 1) 0 then names c i else names d i) ≡ true → ◌≡◌ {A = ℕ} (if x then 0 else 1) (if y then 0 else 1)
+          go : (x y : Bool) → (when eqb (when x then 0 else 1) 0 then names c i else names d i) ≡ true → (when eqb (when y then 0 else 1) 0 then names c i else names d i) ≡ true → ◌≡◌ {A = ℕ} (when x then 0 else 1) (when y then 0 else 1)
           go true true p q = refl
           go true false p q = absurd (apart-rows i p q)
           go false true p q = absurd (apart-rows i q p)

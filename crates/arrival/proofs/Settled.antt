@@ -7,7 +7,7 @@ use mathlib.Core.List.{List, [], ◌∷◌}
 use mathlib.Core.Logic.{⊎_elim}
 use borrow.Author.Tests.{eq-eqb}
 use lib.Dec.{eqb}
-use Rattle.octets.specs.Choice.{if◌then◌else◌}
+use Rattle.octets.specs.Choice.{when◌then◌else◌}
 use Rattle.arrival.specs.Calls.{Calls, Apart, Separate, state_after, answers_of, calls_of, Merged}
 use Rattle.arrival.specs.Totals.{Totals, touched, touching}
 use Rattle.octets.proofs.Choice.{true-false, decided}
@@ -21,31 +21,31 @@ module _ (K : Calls) where
     untouched (c ∷ cs) s k e = go (T.sets c (K.answer c s) k) refl (λ h. untouched cs (K.after c s) k h) e
       where
         go : (b : Bool) → T.sets c (K.answer c s) k ≡ b → (touched K T cs (K.after c s) k ≡ false → (T.total (state_after K cs (K.after c s)) k ≡ T.total (K.after c s) k) × (T.count (state_after K cs (K.after c s)) k ≡ T.count (K.after c s) k))
-            → (if b then true else touched K T cs (K.after c s) k) ≡ false → (T.total (state_after K cs (K.after c s)) k ≡ T.total s k) × (T.count (state_after K cs (K.after c s)) k ≡ T.count s k)
+            → (when b then true else touched K T cs (K.after c s) k) ≡ false → (T.total (state_after K cs (K.after c s)) k ≡ T.total s k) × (T.count (state_after K cs (K.after c s)) k ≡ T.count s k)
         go true x ih h = absurd (true-false {t = true} refl h)
         go false x ih h = let r = ih h in let y = T.stays c s k x in (r.0 ∙ y.0, r.1 ∙ y.1)
 
     -- a total that was set ends as the count of the rows at the end; any other stays
-    pub settled : (cs : List K.Call) (s : K.State) (k : ℕ) → T.total (state_after K cs s) k ≡ (if touched K T cs s k then T.count (state_after K cs s) k else T.total s k)
+    pub settled : (cs : List K.Call) (s : K.State) (k : ℕ) → T.total (state_after K cs s) k ≡ (when touched K T cs s k then T.count (state_after K cs s) k else T.total s k)
     unfolding touched state_after
     settled [] s k = refl
     settled (c ∷ cs) s k = go (T.sets c (K.answer c s) k) refl (touched K T cs (K.after c s) k) refl (settled cs (K.after c s) k)
       where
         go : (b : Bool) → T.sets c (K.answer c s) k ≡ b → (d : Bool) → touched K T cs (K.after c s) k ≡ d
-            → T.total (state_after K cs (K.after c s)) k ≡ (if d then T.count (state_after K cs (K.after c s)) k else T.total (K.after c s) k)
-            → T.total (state_after K cs (K.after c s)) k ≡ (if (if b then true else d) then T.count (state_after K cs (K.after c s)) k else T.total s k)
+            → T.total (state_after K cs (K.after c s)) k ≡ (when d then T.count (state_after K cs (K.after c s)) k else T.total (K.after c s) k)
+            → T.total (state_after K cs (K.after c s)) k ≡ (when (when b then true else d) then T.count (state_after K cs (K.after c s)) k else T.total s k)
         go true x true y ih = ih
         go true x false y ih = ih ∙ T.counted c s k x ∙ sym (untouched cs (K.after c s) k y).1
         go false x true y ih = ih
         go false x false y ih = ih ∙ (T.stays c s k x).0
 
     -- ---- whether a total is set does not depend on the merge
-    further : (c : K.Call) (a : K.Reply) (X : List K.Call) (Y : List K.Reply) (k : ℕ) (b : Bool) → T.sets c a k ≡ false → touching K T X Y k ≡ true → touching K T (if b then c ∷ X else X) (if b then a ∷ Y else Y) k ≡ true
+    further : (c : K.Call) (a : K.Reply) (X : List K.Call) (Y : List K.Reply) (k : ℕ) (b : Bool) → T.sets c a k ≡ false → touching K T X Y k ≡ true → touching K T (when b then c ∷ X else X) (when b then a ∷ Y else Y) k ≡ true
     unfolding touching
     further c a X Y k true x h = rw x h
     further c a X Y k false x h = h
 
-    here : (c : K.Call) (a : K.Reply) (X : List K.Call) (Y : List K.Reply) (k : ℕ) (b : Bool) → b ≡ true → T.sets c a k ≡ true → touching K T (if b then c ∷ X else X) (if b then a ∷ Y else Y) k ≡ true
+    here : (c : K.Call) (a : K.Reply) (X : List K.Call) (Y : List K.Reply) (k : ℕ) (b : Bool) → b ≡ true → T.sets c a k ≡ true → touching K T (when b then c ∷ X else X) (when b then a ∷ Y else Y) k ≡ true
     unfolding touching
     here c a X Y k b e x = rw (e, x)
 
@@ -55,8 +55,8 @@ module _ (K : Calls) where
     some-touches (c ∷ cs) s k e = go (T.sets c (K.answer c s) k) refl (λ h. some-touches cs (K.after c s) k h) e
       where
         go : (b : Bool) → T.sets c (K.answer c s) k ≡ b → (touched K T cs (K.after c s) k ≡ true → (q : ℕ) × (touching K T (calls_of K q cs) (answers_of K q cs (K.after c s)) k ≡ true))
-            → (if b then true else touched K T cs (K.after c s) k) ≡ true
-            → (q : ℕ) × (touching K T (if eqb (K.party c) q then c ∷ calls_of K q cs else calls_of K q cs) (if eqb (K.party c) q then K.answer c s ∷ answers_of K q cs (K.after c s) else answers_of K q cs (K.after c s)) k ≡ true)
+            → (when b then true else touched K T cs (K.after c s) k) ≡ true
+            → (q : ℕ) × (touching K T (when eqb (K.party c) q then c ∷ calls_of K q cs else calls_of K q cs) (when eqb (K.party c) q then K.answer c s ∷ answers_of K q cs (K.after c s) else answers_of K q cs (K.after c s)) k ≡ true)
         go true x ih h = (K.party c, here c (K.answer c s) (calls_of K (K.party c) cs) (answers_of K (K.party c) cs (K.after c s)) k (eqb (K.party c) (K.party c)) (eq-eqb (K.party c) (K.party c) refl) x)
         go false x ih h = let r = ih h in (r.0, further c (K.answer c s) (calls_of K r.0 cs) (answers_of K r.0 cs (K.after c s)) k (eqb (K.party c) r.0) x r.1)
 
@@ -66,8 +66,8 @@ module _ (K : Calls) where
     touches-some (c ∷ cs) s k q e = go (eqb (K.party c) q) (T.sets c (K.answer c s) k) refl (λ h. touches-some cs (K.after c s) k q h) e
       where
         go : (b d : Bool) → T.sets c (K.answer c s) k ≡ d → (touching K T (calls_of K q cs) (answers_of K q cs (K.after c s)) k ≡ true → touched K T cs (K.after c s) k ≡ true)
-            → touching K T (if b then c ∷ calls_of K q cs else calls_of K q cs) (if b then K.answer c s ∷ answers_of K q cs (K.after c s) else answers_of K q cs (K.after c s)) k ≡ true
-            → (if d then true else touched K T cs (K.after c s) k) ≡ true
+            → touching K T (when b then c ∷ calls_of K q cs else calls_of K q cs) (when b then K.answer c s ∷ answers_of K q cs (K.after c s) else answers_of K q cs (K.after c s)) k ≡ true
+            → (when d then true else touched K T cs (K.after c s) k) ≡ true
         go b true x ih h = refl
         go true false x ih h = ih (rw x at h)
         go false false x ih h = ih h
@@ -94,5 +94,5 @@ module _ (K : Calls) where
       pub merges-total-alike : (k : ℕ) → T.total (state_after K cs s) k ≡ T.total (state_after K ds s) k
       merges-total-alike k =
           settled cs s k
-          ∙ (let t = merges-touch-alike k in let c = T.counts (state_after K cs s) (state_after K ds s) (merges-end-alike K A cs ds ls m n z s) k in λ i. if t i then c i else T.total s k)
+          ∙ (let t = merges-touch-alike k in let c = T.counts (state_after K cs s) (state_after K ds s) (merges-end-alike K A cs ds ls m n z s) k in λ i. when t i then c i else T.total s k)
           ∙ sym (settled ds s k)

@@ -1,7 +1,7 @@
 -- The order of arrival, over any calls: each call is of a party, a party has a right on some rows,
 -- and a call is a step on a state.
 use Rattle.std.specs.Prelude.{ℕ, ◌≡◌, Bool, true, false, List, [], ◌∷◌, ◌⊎◌, eqb}
-use Rattle.octets.specs.Choice.{if◌then◌else◌}
+use Rattle.octets.specs.Choice.{when◌then◌else◌}
 
 -- what a call is, what it answers, and what it leaves
 pub record Calls : Type 1 where
@@ -62,17 +62,17 @@ module _ (K : Calls) where
   unfoldable pub answers_of : ℕ → List K.Call → K.State → List K.Reply
   answers_of q [] s = []
   answers_of q (c ∷ cs) s =
-      if eqb (K.party c) q then K.answer c s ∷ answers_of q cs (K.after c s)
+      when eqb (K.party c) q then K.answer c s ∷ answers_of q cs (K.after c s)
       else answers_of q cs (K.after c s)
 
   -- one party's calls, in its own order
   unfoldable pub calls_of : ℕ → List K.Call → List K.Call
   calls_of q [] = []
-  calls_of q (c ∷ cs) = if eqb (K.party c) q then c ∷ calls_of q cs else calls_of q cs
+  calls_of q (c ∷ cs) = when eqb (K.party c) q then c ∷ calls_of q cs else calls_of q cs
 
   -- a party's list replaced, the others kept
   abbrev pub replaced : (ℕ → List K.Call) → ℕ → List K.Call → ℕ → List K.Call
-  replaced ls q l r = if eqb r q then l else ls r
+  replaced ls q l r = when eqb r q then l else ls r
 
   -- R47. a list is a merge of given lists, one for each party, that keeps each list's own order
   abbrev pub Merged : List K.Call → (ℕ → List K.Call) → Type 0

@@ -1,6 +1,6 @@
 -- Totals over rows that parties share: what a total should be by the rows, and which calls set it.
 use Rattle.std.specs.Prelude.{ℕ, ◌≡◌, Bool, true, false, List, [], ◌∷◌}
-use Rattle.octets.specs.Choice.{if◌then◌else◌}
+use Rattle.octets.specs.Choice.{when◌then◌else◌}
 use Rattle.arrival.specs.Calls.{Calls}
 
 module _ (K : Calls) where
@@ -20,10 +20,10 @@ module _ (K : Calls) where
     -- whether some call of the run sets total k
     unfoldable pub touched : List K.Call → K.State → ℕ → Bool
     touched [] s k = false
-    touched (c ∷ cs) s k = if T.sets c (K.answer c s) k then true else touched cs (K.after c s) k
+    touched (c ∷ cs) s k = when T.sets c (K.answer c s) k then true else touched cs (K.after c s) k
 
     -- the same by the calls and their answers
     unfoldable pub touching : List K.Call → List K.Reply → ℕ → Bool
     touching [] rs k = false
     touching (c ∷ cs) [] k = false
-    touching (c ∷ cs) (r ∷ rs) k = if T.sets c r k then true else touching cs rs k
+    touching (c ∷ cs) (r ∷ rs) k = when T.sets c r k then true else touching cs rs k

@@ -1,4 +1,6 @@
 // What a message asks of the hub: which act, on which circuits, for which of them.
+#![tactic(auto)]
+
 ghost use Rattle.std.specs.Prelude.{◌≡◌, ◌+◌, ◌≤◌, length};
 ghost use Rattle.octets.specs.Answer.{accepted};
 ghost use Rattle.isup.specs.Limits.{last_circuit};

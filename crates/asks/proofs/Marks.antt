@@ -8,7 +8,7 @@ use native.Mathlib.Omega.{arith}
 use borrow.Author.Tests.{ne_eqb, eqb-true, eqb-false, ltb-true, ltb-false}
 use lib.Dec.{ltb, eqb}
 use Rattle.octets.specs.Octet.{octet}
-use Rattle.octets.specs.Choice.{if◌then◌else◌}
+use Rattle.octets.specs.Choice.{when◌then◌else◌}
 use Rattle.octets.specs.Answer.{◌then◌}
 use Rattle.octets.specs.Sum.{total}
 use Rattle.octets.proofs.Choice.{decided}
@@ -27,7 +27,7 @@ use Rattle.asks.specs.Spare.{SpareAlike}
 use Rattle.asks.proofs.Types.{for-type}
 
 -- a bit is 1 where it is 1, else 0
-bit-said : (y : ℕ) → y % 2 ≡ (if eqb (y % 2) 1 then 1 else 0)
+bit-said : (y : ℕ) → y % 2 ≡ (when eqb (y % 2) 1 then 1 else 0)
 bit-said y = ⊎_elim (λ t. rw t (eqb-true (y % 2) 1 t)) (λ f. rw f (zero_bit (eqb-false (y % 2) 1 f))) (decided (eqb (y % 2) 1))
   where
     zero_bit : (y % 2 ≡ 1 → ⊥) → y % 2 ≡ 0
@@ -39,10 +39,10 @@ status-bit m contents n h =
     ap (λ (o : ℕ). o / 2 ^ (n % 8) % 2) (octets-octet m (contents.from + 1) (width (range_in m contents)) (n / 8) (omega arith))
 
 -- what is counted is how many of the circuits m to m+r are marked
-pub marks-counted : (m : List ℕ) (contents : Span) → marks_in_lem (range_in m contents) (group_status m contents) ≡ total (λ n. if mark_of m (contents.from + 1) n then 1 else 0) 0 (range_in m contents + 1)
+pub marks-counted : (m : List ℕ) (contents : Span) → marks_in_lem (range_in m contents) (group_status m contents) ≡ total (λ n. when mark_of m (contents.from + 1) n then 1 else 0) 0 (range_in m contents + 1)
 unfolding marks_in_lem mark_of bit_at
 marks-counted m contents =
-    total-same (status_bit (group_status m contents)) (λ n. if mark_of m (contents.from + 1) n then 1 else 0) 0 0 (range_in m contents + 1)
+    total-same (status_bit (group_status m contents)) (λ n. when mark_of m (contents.from + 1) n then 1 else 0) 0 0 (range_in m contents + 1)
     (λ k l. rw (ne_eqb (contents.from + 1) 0 (λ z. omega arith)) (status-bit m contents (0 + k) (omega arith) ∙ bit-said _))
 
 -- ---- messages that differ in spare bits alone
@@ -65,7 +65,7 @@ module _ (m m' : List ℕ) (x : Message) (s : SpareAlike m m' x) where
   -- so they mark the same circuits, and as many
   pub mark-alike : (n : ℕ) → n ≤ range_in m x.parts.first → mark_of m' (x.parts.first.from + 1) n ≡ mark_of m (x.parts.first.from + 1) n
   unfolding mark_of bit_at
-  mark-alike n h = ap (λ (b : ℕ). if eqb (x.parts.first.from + 1) 0 then true else eqb b 1) (bit-alike n h)
+  mark-alike n h = ap (λ (b : ℕ). when eqb (x.parts.first.from + 1) 0 then true else eqb b 1) (bit-alike n h)
 
   marks-alike : marks_in_lem (range_in m' x.parts.first) (group_status m' x.parts.first) ≡ marks_in_lem (range_in m x.parts.first) (group_status m x.parts.first)
   marks-alike =
@@ -78,10 +78,10 @@ module _ (m m' : List ℕ) (x : Message) (s : SpareAlike m m' x) where
   broken-alike =
       let size = span_size x.parts.first in
       λ i.
-      if ltb 1 (s.kinds i) then true
-      else if eqb size 0 then true
-      else if eqb (s.ranges i) 0 then true
-      else if eqb size (1 + width (s.ranges i)) then ltb 32 (marks-alike i)
+      when ltb 1 (s.kinds i) then true
+      else when eqb size 0 then true
+      else when eqb (s.ranges i) 0 then true
+      else when eqb size (1 + width (s.ranges i)) then ltb 32 (marks-alike i)
       else true
 
   asked-alike : (act : Act) → group_ask m' act x.circuit (indicator_in m' x) x.parts.first ≡ group_ask m act x.circuit (indicator_in m x) x.parts.first

@@ -9,7 +9,7 @@ use borrow.Author.Tests.{lt-ltb, le-ltb, ltb-false, eqb-true, eqb-false}
 use lib.Dec.{ltb, eqb}
 use lib.ListN.{length}
 use Rattle.octets.specs.Octet.{AllOctets}
-use Rattle.octets.specs.Choice.{if◌then◌else◌}
+use Rattle.octets.specs.Choice.{when◌then◌else◌}
 use Rattle.octets.specs.Answer.{accepted, ◌then◌}
 use Rattle.octets.proofs.Answer.{accepted-same, past-test, then-accepted, then_same}
 use Rattle.parts.specs.declared.Span.{Span}
@@ -107,11 +107,11 @@ pub record WholeGroup (m : List ℕ) (indicator : ℕ) (contents : Span) : Type 
   pub exact : span_size contents ≡ 1 + width (range_in m contents)
   pub few : marks_in_lem (range_in m contents) (group_status m contents) ≤ 32
 
-past : (t : Bool) {y : Bool} → (if t then true else y) ≡ false → (t ≡ false) × (y ≡ false)
+past : (t : Bool) {y : Bool} → (when t then true else y) ≡ false → (t ≡ false) × (y ≡ false)
 past true e = let z : ◌≡◌ {A = ℕ} 0 1 = cc in absurd (omega arith)
 past false e = (refl, e)
 
-held-so : (t : Bool) {y : Bool} → (if t then y else true) ≡ false → (t ≡ true) × (y ≡ false)
+held-so : (t : Bool) {y : Bool} → (when t then y else true) ≡ false → (t ≡ true) × (y ≡ false)
 held-so true e = (refl, e)
 held-so false e = let z : ◌≡◌ {A = ℕ} 0 1 = cc in absurd (omega arith)
 

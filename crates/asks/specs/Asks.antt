@@ -3,7 +3,7 @@
 -- Refused with 17, 14, 18, in that order.
 use Rattle.std.specs.Prelude.{ℕ, ◌+◌, ◌/◌, ◌%◌, ◌^◌, ◌≤◌, ◌<◌, ◌≡◌, ◌⊎◌, length, Bool, true, false, List, ltb, eqb}
 use Rattle.octets.specs.Octet.{octet, octets}
-use Rattle.octets.specs.Choice.{if◌then◌else◌}
+use Rattle.octets.specs.Choice.{when◌then◌else◌}
 use Rattle.octets.specs.Answer.{Answer, accepted, refused, ◌then◌}
 use Rattle.parts.specs.declared.Span.{Span}
 use Rattle.parts.specs.Spans.{span_size}
@@ -33,7 +33,7 @@ width r = r / 8 + 1
 -- is from the least to 31: 1 is the least of GRS, 0 of CQM
 unfoldable pub broken_range : ℕ → List ℕ → Span → Bool
 broken_range least m contents =
-    if eqb (span_size contents) 1 then (if ltb (range_in m contents) least then true else ltb 31 (range_in m contents))
+    when eqb (span_size contents) 1 then (when ltb (range_in m contents) least then true else ltb 31 (range_in m contents))
     else true
 
 -- the status octets of CGB and CGU come after the range
@@ -44,10 +44,10 @@ group_status m contents = octets m (contents.from + 1) (width (range_in m conten
 -- r/8+1 status octets, which mark 32 circuits at the most
 unfoldable pub broken_group : List ℕ → ℕ → Span → Bool
 broken_group m indicator contents =
-    if ltb 1 (block_kind indicator) then true
-    else if eqb (span_size contents) 0 then true
-    else if eqb (range_in m contents) 0 then true
-    else if eqb (span_size contents) (1 + width (range_in m contents)) then ltb 32 (marks_in_lem (range_in m contents) (group_status m contents))
+    when ltb 1 (block_kind indicator) then true
+    else when eqb (span_size contents) 0 then true
+    else when eqb (range_in m contents) 0 then true
+    else when eqb (span_size contents) (1 + width (range_in m contents)) then ltb 32 (marks_in_lem (range_in m contents) (group_status m contents))
     else true
 
 -- a message that names one circuit: it is marked, and a block is the one for maintenance
@@ -99,11 +99,11 @@ IsAsked m x a = (act : Act) × (act_for x.kind ≡ accepted act) × (ask_in_lem 
 
 -- 18 where the group passes the last circuit
 abbrev pub reaching : Ask → Answer Ask
-reaching a = if ltb last_circuit (a.circuit + a.range) then refused 18 0 else accepted a
+reaching a = when ltb last_circuit (a.circuit + a.range) then refused 18 0 else accepted a
 
 -- 14 where the contents break their rule, then 18
 abbrev pub unbroken : Bool → Ask → Answer Ask
-unbroken b a = if b then refused 14 0 else reaching a
+unbroken b a = when b then refused 14 0 else reaching a
 
 -- what is asked for by that act
 abbrev pub asked_for : List ℕ → Message → Act → Answer Ask
@@ -124,7 +124,7 @@ bit_at m status n = eqb (octet m (status + n / 8) / 2 ^ (n % 8) % 2) 1
 -- whether circuit m+n is marked: by its status bit where there is a status,
 -- else as every named circuit is
 unfoldable pub mark_of : List ℕ → ℕ → ℕ → Bool
-mark_of m status n = if eqb status 0 then true else bit_at m status n
+mark_of m status n = when eqb status 0 then true else bit_at m status n
 
 -- what is known of an ask that was not refused: the group ends at the last circuit at the latest,
 -- CQM's has 32 circuits at the most, and the status is in the message

@@ -2,7 +2,7 @@
 -- 18. Each is in the words of its rule, in the order of checking.
 use Rattle.std.specs.Prelude.{ℕ, ◌+◌, ◌≤◌, ◌<◌, ◌≡◌, List, [], ◌∷◌, ◌++◌, ◌⊎◌}
 use Rattle.octets.specs.Faults.{Fault, fault}
-use Rattle.octets.specs.Choice.{if◌then◌else◌}
+use Rattle.octets.specs.Choice.{when◌then◌else◌}
 use Rattle.octets.specs.Among.{among, OneOf}
 use Rattle.isup.specs.declared.Message.{Message}
 use Rattle.isup.specs.Limits.{last_circuit}
@@ -46,7 +46,7 @@ BreaksRule m x =
 -- R29. the range that a message gives: the range octet of GRS, CGB, CGU and CQM, else 0
 abbrev pub range_given : List ℕ → Message → ℕ
 range_given m x =
-    if among x.kind (GRS ∷ CGB ∷ CGU ∷ CQM ∷ []) then range_in m x.parts.first else 0
+    when among x.kind (GRS ∷ CGB ∷ CGU ∷ CQM ∷ []) then range_in m x.parts.first else 0
 
 -- R29. 18: group passes circuit 4095
 abbrev pub GroupPasses : List ℕ → Message → Type 0

@@ -1,6 +1,6 @@
 -- The types that the hub acts on, and which act each asks for.
 use Rattle.std.specs.Prelude.{ℕ, List, [], ◌∷◌, eqb}
-use Rattle.octets.specs.Choice.{if◌then◌else◌}
+use Rattle.octets.specs.Choice.{when◌then◌else◌}
 use Rattle.octets.specs.Answer.{Answer, accepted, refused}
 use Rattle.isup.specs.Types.{IAM, REL, RSC, BLO, UBL, GRS, CGB, CGU, CQM}
 use Rattle.rows.specs.declared.Act.{Act}
@@ -29,7 +29,7 @@ acts = Seize ∷ Release ∷ Reset ∷ Block ∷ Unblock ∷ ResetGroup ∷ Bloc
 -- the act of a list that the type asks for; 17 where there is none
 abbrev pub act_among : ℕ → List Act → Answer Act
 act_among kind [] = refused 17 0
-act_among kind (a ∷ l) = if eqb kind (type_of a) then accepted a else act_among kind l
+act_among kind (a ∷ l) = when eqb kind (type_of a) then accepted a else act_among kind l
 
 -- what a type asks for; 17 for a type that the hub does not act on
 unfoldable pub act_for : ℕ → Answer Act

@@ -1,10 +1,12 @@
 // What a message asks of the hub, and what is said of it: definitions, theorems and types.
+#![tactic(auto)]
+
 use rows::Act;
 
 // What a message asks: the act; the circuits, `circuit` and the `range` after it; the kind of
 // block, 0 for maintenance and 1 for hardware; and the octet at which the status stands, 0 where
 // each named circuit is marked.
-#[derive(Drop)]
+#[derive(Clone, Copy)]
 pub struct Ask {
     pub act: Act,
     pub circuit: usize,
@@ -14,7 +16,7 @@ pub struct Ask {
 }
 
 // What a message asks, or the refusal's number with the octet that it is about.
-#[derive(Drop)]
+#[derive(Clone, Copy)]
 pub enum Verdict {
     Granted(Ask),
     Refused(u8, usize),

@@ -8,7 +8,7 @@ use mathlib.Core.Logic.{◌⊎◌, inl, inr, ⊎_elim, ◌↔◌}
 use native.Mathlib.Omega.{arith}
 use native.Mathlib.Nat.{eq-or-lt_of_le}
 use lib.ListN.{length}
-use Rattle.octets.specs.Choice.{if◌then◌else◌}
+use Rattle.octets.specs.Choice.{when◌then◌else◌}
 use Rattle.octets.specs.Among.{among, OneOf}
 use Rattle.octets.proofs.Among.{among_one, one-among}
 use Rattle.octets.proofs.Choice.{chosen, decided, true-false}
@@ -32,13 +32,13 @@ twenty = (refl, refl, refl)
 -- a list without some numbers
 abbrev without : List ℕ → List ℕ → List ℕ
 without ts [] = []
-without ts (x ∷ xs) = if among x ts then without ts xs else x ∷ without ts xs
+without ts (x ∷ xs) = when among x ts then without ts xs else x ∷ without ts xs
 
 one-without : (t : ℕ) (ts xs : List ℕ) → OneOf t (without ts xs) → OneOf t xs × (among t ts ≡ false)
 one-without t ts [] o = absurd o
 one-without t ts (x ∷ xs) o = go (among x ts) refl (one-without t ts xs) o
   where
-    go : (b : Bool) → among x ts ≡ b → (OneOf t (without ts xs) → OneOf t xs × (among t ts ≡ false)) → OneOf t (if b then without ts xs else x ∷ without ts xs) → OneOf t (x ∷ xs) × (among t ts ≡ false)
+    go : (b : Bool) → among x ts ≡ b → (OneOf t (without ts xs) → OneOf t xs × (among t ts ≡ false)) → OneOf t (when b then without ts xs else x ∷ without ts xs) → OneOf t (x ∷ xs) × (among t ts ≡ false)
     go true e ih o = let r = ih o in (inr r.0, r.1)
     go false e ih o = ⊎_elim (λ (q : t ≡ x). (inl q, rw q e)) (λ q. let r = ih q in (inr r.0, r.1)) o
 
@@ -46,7 +46,7 @@ without-one : (t : ℕ) (ts xs : List ℕ) → OneOf t xs → among t ts ≡ fal
 without-one t ts [] o n = o
 without-one t ts (x ∷ xs) o n = go (among x ts) refl (λ q. without-one t ts xs q n) o
   where
-    go : (b : Bool) → among x ts ≡ b → (OneOf t xs → OneOf t (without ts xs)) → OneOf t (x ∷ xs) → OneOf t (if b then without ts xs else x ∷ without ts xs)
+    go : (b : Bool) → among x ts ≡ b → (OneOf t xs → OneOf t (without ts xs)) → OneOf t (x ∷ xs) → OneOf t (when b then without ts xs else x ∷ without ts xs)
     go true e ih o = ⊎_elim (λ (q : t ≡ x). absurd (true-false {t = among x ts} e (rw (← q) n))) ih o
     go false e ih o = ⊎_elim (λ q. inl q) (λ q. inr (ih q)) o
 

@@ -1,6 +1,6 @@
 -- The table of types: ISUP's, without the types that the standard marks as ISUP only.
 use Rattle.std.specs.Prelude.{ℕ, List, [], ◌∷◌}
-use Rattle.octets.specs.Choice.{if◌then◌else◌}
+use Rattle.octets.specs.Choice.{when◌then◌else◌}
 use Rattle.octets.specs.Among.{among}
 use Rattle.layout.specs.declared.Row.{Row}
 use Rattle.layout.specs.declared.Row.TheVariants.{Unknown}
@@ -14,7 +14,7 @@ isup_only = BLO ∷ UBL ∷ BLA ∷ UBA ∷ []
 
 -- what the table says of a type octet
 unfoldable pub call_shape_of : ℕ → Row
-call_shape_of t = if among t isup_only then Unknown else isup_shape_of t
+call_shape_of t = when among t isup_only then Unknown else isup_shape_of t
 
 -- a message has 270 octets at the most
 abbrev pub longest_call : ℕ

@@ -1,4 +1,6 @@
 // BICC: definitions and theorems alone, the longest message for code, and what reading answers.
+#![tactic(auto)]
+
 use parts::Parts;
 
 // A message has so many octets at the most.
@@ -6,7 +8,7 @@ pub const LONGEST: usize = 270;
 
 // A message that is well formed: its call instance code, its type, and where its parts stand. BICC
 // has no third variable part.
-#[derive(Drop)]
+#[derive(Clone, Copy)]
 pub struct Message {
     pub code: u32,
     pub kind: u8,
@@ -14,7 +16,7 @@ pub struct Message {
 }
 
 // A message, or the refusal's number with the octet that it is about.
-#[derive(Drop)]
+#[derive(Clone, Copy)]
 pub enum Reading {
     Read(Message),
     Refused(u8, usize),

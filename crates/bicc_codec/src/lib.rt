@@ -1,5 +1,7 @@
 // BICC, ISUP's sibling without circuits: the 20 types, the reader and the writer. A message has a
 // call instance code of four octets, then the type and the parts as in ISUP.
+#![tactic(auto)]
+
 ghost use Rattle.std.specs.Prelude.{◌≡◌, ◌≤◌, length};
 ghost use Rattle.octets.specs.Octet.{octets};
 ghost use Rattle.octets.specs.Filled.{leaving};

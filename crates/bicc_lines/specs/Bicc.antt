@@ -1,6 +1,6 @@
 -- The lines of BICC's requests: bicc-shape, bicc-read, bicc-write, bicc-compact.
 use Rattle.std.specs.Prelude.{ℕ, List, [], ◌∷◌, ◌++◌, eqb}
-use Rattle.octets.specs.Choice.{if◌then◌else◌}
+use Rattle.octets.specs.Choice.{when◌then◌else◌}
 use Rattle.octets.specs.Answer.{Answer, accepted, refused}
 use Rattle.bicc.specs.declared.Message.{Message}
 use Rattle.bicc.specs.Table.{call_shape_of}
@@ -21,8 +21,8 @@ code_line m (refused n at) = fault_line n at
 -- the line of a row of the family, by what its fields say; bicc-compact is its last
 unfoldable pub bicc_line_lem : ℕ → List FieldSays → List ℕ
 bicc_line_lem which gs =
-    if eqb which BICC-SHAPE then shape_line (call_shape_of (octet_at_lem gs 0))
-    else if eqb which BICC-READ then code_line (octets_at gs 0) (call_read_of (octets_at gs 0))
-    else if eqb which BICC-WRITE
+    when eqb which BICC-SHAPE then shape_line (call_shape_of (octet_at_lem gs 0))
+    else when eqb which BICC-READ then code_line (octets_at gs 0) (call_read_of (octets_at gs 0))
+    else when eqb which BICC-WRITE
     then octets_line (call_write_of (number_at gs 0) (number_at gs 1) (octets_at gs 2) (octets_at gs 3) (octets_at gs 4) (octets_at gs 5) (lent (number_at gs 6)))
     else compact_line (call_compact_of (octets_at gs 0) (lent (number_at gs 1)))

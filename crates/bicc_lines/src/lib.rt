@@ -1,4 +1,6 @@
 // What the desk answers to BICC's requests: bicc-shape, bicc-read, bicc-write, bicc-compact.
+#![tactic(auto)]
+
 ghost use Rattle.std.specs.Prelude.{◌≡◌};
 ghost use Rattle.bicc.specs.Read.{call_read_of};
 ghost use Rattle.bicc.specs.Told.{call_told};

@@ -1,5 +1,7 @@
 // What the desk answers to block and unblock, which set or end our own block on a circuit, and what
 // they leave in the states and the totals.
+#![tactic(auto)]
+
 ghost use Rattle.std.specs.Prelude.{◌≡◌, []};
 ghost use Rattle.octets.specs.Told.{written_told};
 ghost use Rattle.printing.specs.Sheet.{sheet, pour};

@@ -1,5 +1,7 @@
 // The totals of the blocks: counted anew after a call, rebuilt from the rows,
 // and asked how many circuits are busy.
+#![tactic(auto)]
+
 ghost use Rattle.std.specs.Prelude.{◌≡◌, ◌+◌, ◌*◌, ◌≤◌, ◌<◌, length};
 ghost use Rattle.octets.specs.Octet.{octet};
 ghost use Rattle.octets.specs.Sum.{total};

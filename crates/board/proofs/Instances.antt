@@ -10,7 +10,7 @@ use borrow.Author.Tests.{eq-eqb}
 use lib.Dec.{eqb}
 use lib.ListN.{length, replicate, length-replicate, get_or-replicate}
 use Rattle.octets.specs.Octet.{octet}
-use Rattle.octets.specs.Choice.{if◌then◌else◌}
+use Rattle.octets.specs.Choice.{when◌then◌else◌}
 use Rattle.octets.specs.Answer.{accepted}
 use Rattle.octets.specs.Sum.{total}
 use Rattle.layout.specs.Container.{variable_at_lem, optional_at_lem, variable_slot_lem, optional_slot_lem, container_of, parts_of}
@@ -140,7 +140,7 @@ accepts s m a n w e last free size room =
     let long = length-reply s.rows m a ∙ size in
     let grant =
     grant-so (tables s.rows (owned 1) (owned 0)) 1 m (length zeros) a w.0 (owned-sized 1) (owned-sized 0) e
-    (none_found (has_right (owned 1) (owned 0) 1) a.circuit (a.range + 1) (λ j p q. ap (λ (b : Bool). if b then true else is_mine (owned 0) 1 j) (mine j (omega (arith, q, last)))))
+    (none_found (has_right (owned 1) (owned 0) 1) a.circuit (a.range + 1) (λ j p q. ap (λ (b : Bool). when b then true else is_mine (owned 0) 1 j) (mine j (omega (arith, q, last)))))
     (owner (may_help a.act a.block) (none_found (is_mine (owned 1) 1) a.circuit (a.range + 1) (λ j p q. mine j (omega (arith, q, last)))))
     (none_found (λ c. is_legal (octet s.rows c)) a.circuit (a.range + 1) (λ j p q. is-legal _ (w.2 j (omega (arith, q, last)))))
     free
@@ -150,7 +150,7 @@ accepts s m a n w e last free size room =
     mine : (j : ℕ) → j ≤ 1 → is_mine (owned 1) 1 j ≡ true
     mine j h = ap (λ (k : ℕ). eqb k 1) (get_or-replicate 4096 j 1 0 (omega (arith, h)))
 
-    owner : (b : Bool) {x : Bool} → x ≡ false → (if b then false else x) ≡ false
+    owner : (b : Bool) {x : Bool} → x ≡ false → (when b then false else x) ≡ false
     owner true e = refl
     owner false e = e
 
@@ -189,7 +189,7 @@ pages-merge =
     refl refl refl refl refl refl refl refl refl marks ok₁ ok₂ (omega (arith, room-there)) in
     (ok₁, ok₂, u.0, u.1)
   where
-    marks : (i : ℕ) → i ≤ 1 → mark_of pages 7 i ≡ (if mark_of page₁ 7 i then true else mark_of page₂ 7 i)
+    marks : (i : ℕ) → i ≤ 1 → mark_of pages 7 i ≡ (when mark_of page₁ 7 i then true else mark_of page₂ 7 i)
     marks zero h = refl
     marks (suc zero) h = refl
     marks (suc (suc i)) h = absurd (omega (arith, h))

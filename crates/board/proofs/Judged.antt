@@ -7,7 +7,7 @@ use mathlib.Core.Logic.{◌⊎◌, inl, inr, ⊎_elim}
 use borrow.Author.Tests.{eqb-true, eqb-false}
 use lib.Dec.{eqb}
 use lib.ListN.{length}
-use Rattle.octets.specs.Choice.{if◌then◌else◌}
+use Rattle.octets.specs.Choice.{when◌then◌else◌}
 use Rattle.octets.specs.Answer.{Answer, refused}
 use Rattle.octets.specs.Faults.{Fault, Judges, fault}
 use Rattle.octets.proofs.Faults.{judges-there, judges-first}
@@ -25,7 +25,7 @@ use Rattle.board.specs.Faults.{WrongTotals, board_faults, desk_board_faults}
 kept-judges : (states totals buffer : List ℕ) (named : Answer ℕ → Answer Deed) (r : After) {P : Type 0} {fs : List Fault} → Judges r.answer (fault 16 0 P ∷ fs) → Judges (keeping states totals buffer named r).answer (fault 16 0 (P ⊎ WrongTotals totals) ∷ fs)
 kept-judges states totals buffer named r {P} {fs} j = go (eqb (length totals) 64) refl
   where
-    go : (t : Bool) → eqb (length totals) 64 ≡ t → Judges (if t then board_after r.answer r.states (totals_after r.states (named r.answer) totals) r.buffer else board_after (refused 16 0) states totals buffer).answer (fault 16 0 (P ⊎ WrongTotals totals) ∷ fs)
+    go : (t : Bool) → eqb (length totals) 64 ≡ t → Judges (when t then board_after r.answer r.states (totals_after r.states (named r.answer) totals) r.buffer else board_after (refused 16 0) states totals buffer).answer (fault 16 0 (P ⊎ WrongTotals totals) ∷ fs)
     go true e = judges-first (λ p. inl p) (λ w. ⊎_elim (λ p. p) (λ n. absurd (n (eqb-true _ _ e))) w) j
     go false e = judges-there (fault 16 0 (P ⊎ WrongTotals totals)) fs 0 (refl, inr (eqb-false _ _ e)) (λ at h. h.0)
 

@@ -10,7 +10,7 @@ use borrow.Author.Tests.{eq-eqb, ne_eqb, eqb-true}
 use lib.Dec.{eqb}
 use lib.ListN.{length}
 use Rattle.octets.specs.Octet.{octet}
-use Rattle.octets.specs.Choice.{if◌then◌else◌}
+use Rattle.octets.specs.Choice.{when◌then◌else◌}
 use Rattle.octets.specs.Answer.{Answer, accepted, refused}
 use Rattle.octets.specs.Told.{written_told}
 use Rattle.octets.specs.declared.Written.{Written}
@@ -49,7 +49,7 @@ module _ (states totals buffer : List ℕ) (named : Answer ℕ → Answer Deed) 
   pub kept-accepted : (n : ℕ) → (keeping states totals buffer named r).answer ≡ accepted n → (length totals ≡ 64) × (r.answer ≡ accepted n)
   kept-accepted n e = go (eqb (length totals) 64) refl e
     where
-      go : (t : Bool) → eqb (length totals) 64 ≡ t → (if t then board_after r.answer r.states (totals_after r.states (named r.answer) totals) r.buffer else board_after (refused 16 0) states totals buffer).answer ≡ accepted n → (length totals ≡ 64) × (r.answer ≡ accepted n)
+      go : (t : Bool) → eqb (length totals) 64 ≡ t → (when t then board_after r.answer r.states (totals_after r.states (named r.answer) totals) r.buffer else board_after (refused 16 0) states totals buffer).answer ≡ accepted n → (length totals ≡ 64) × (r.answer ≡ accepted n)
       go true q h = (eqb-true _ _ q, h)
       go false q h = absurd (refused-accepted h)
 
@@ -57,7 +57,7 @@ module _ (states totals buffer : List ℕ) (named : Answer ℕ → Answer Deed) 
   pub kept-length : length (keeping states totals buffer named r).totals ≡ length totals
   kept-length = go (eqb (length totals) 64) (named r.answer)
     where
-      go : (t : Bool) (x : Answer Deed) → length (if t then board_after r.answer r.states (totals_after r.states x totals) r.buffer else board_after (refused 16 0) states totals buffer).totals ≡ length totals
+      go : (t : Bool) (x : Answer Deed) → length (when t then board_after r.answer r.states (totals_after r.states x totals) r.buffer else board_after (refused 16 0) states totals buffer).totals ≡ length totals
       go true (accepted d) = length-recounted r.states d.first d.last totals
       go true (refused n at) = refl
       go false x = refl
@@ -99,7 +99,7 @@ module _ (T : Tables) (totals : List ℕ) (sender : ℕ) (m buffer : List ℕ) w
   board-keeps n at e = go (eqb (length totals) 64) (act_of T sender m buffer) (ask_of m) (act-keeps T sender m buffer n at) e
     where
       go : (t : Bool) (r : After) (g : Answer Ask) → (r.answer ≡ refused n at → (r.states ≡ T.states) × (r.buffer ≡ buffer)) →
-          let x = if t then board_after r.answer r.states (totals_after r.states (with_circuits g r.answer) totals) r.buffer else board_after (refused 16 0) T.states totals buffer in
+          let x = when t then board_after r.answer r.states (totals_after r.states (with_circuits g r.answer) totals) r.buffer else board_after (refused 16 0) T.states totals buffer in
           x.answer ≡ refused n at → (x.states ≡ T.states) × (x.totals ≡ totals) × (x.buffer ≡ buffer)
       go true r g k h = ((k h).0, ap (λ (y : Answer ℕ). totals_after r.states (with_circuits g y) totals) h ∙ never g, (k h).1)
         where
@@ -113,7 +113,7 @@ module _ (T : Tables) (totals : List ℕ) (sender : ℕ) (m buffer : List ℕ) w
   unfolding board_of
   board-buffer-length = go (eqb (length totals) 64) (act_of T sender m buffer) (buffer-length T sender m buffer)
     where
-      go : (t : Bool) (r : After) → length r.buffer ≡ length buffer → length (if t then board_after r.answer r.states (totals_after r.states (with_circuits (ask_of m) r.answer) totals) r.buffer else board_after (refused 16 0) T.states totals buffer).buffer ≡ length buffer
+      go : (t : Bool) (r : After) → length r.buffer ≡ length buffer → length (when t then board_after r.answer r.states (totals_after r.states (with_circuits (ask_of m) r.answer) totals) r.buffer else board_after (refused 16 0) T.states totals buffer).buffer ≡ length buffer
       go true r e = e
       go false r e = refl
 
@@ -225,7 +225,7 @@ module _ (states totals : List ℕ) (circuit : ℕ) (set : Bool) (buffer : List 
   desk-board-keeps n at e = go (eqb (length totals) 64) (desk_of states circuit set buffer) (desk-keeps states circuit set buffer n at) e
     where
       go : (t : Bool) (r : After) → (r.answer ≡ refused n at → (r.states ≡ states) × (r.buffer ≡ buffer)) →
-          let x = if t then board_after r.answer r.states (totals_after r.states (alone circuit r.answer) totals) r.buffer else board_after (refused 16 0) states totals buffer in
+          let x = when t then board_after r.answer r.states (totals_after r.states (alone circuit r.answer) totals) r.buffer else board_after (refused 16 0) states totals buffer in
           x.answer ≡ refused n at → (x.states ≡ states) × (x.totals ≡ totals) × (x.buffer ≡ buffer)
       go true r k h = ((k h).0, ap (λ (y : Answer ℕ). totals_after r.states (alone circuit y) totals) h, (k h).1)
       go false r k h = (refl, refl, refl)
@@ -235,7 +235,7 @@ module _ (states totals : List ℕ) (circuit : ℕ) (set : Bool) (buffer : List 
   unfolding desk_board_of
   desk-board-buffer-length = go (eqb (length totals) 64) (desk_of states circuit set buffer) (desk-buffer-length states circuit set buffer)
     where
-      go : (t : Bool) (r : After) → length r.buffer ≡ length buffer → length (if t then board_after r.answer r.states (totals_after r.states (alone circuit r.answer) totals) r.buffer else board_after (refused 16 0) states totals buffer).buffer ≡ length buffer
+      go : (t : Bool) (r : After) → length r.buffer ≡ length buffer → length (when t then board_after r.answer r.states (totals_after r.states (alone circuit r.answer) totals) r.buffer else board_after (refused 16 0) states totals buffer).buffer ≡ length buffer
       go true r e = e
       go false r e = refl
 

@@ -1,6 +1,6 @@
 -- Laws of the group messages, of the rows and the totals that they leave: over any range, any
 -- layout of the messages and any tables.
-use Prim.Native.Nat.{ℕ, ◌+◌, ◌-◌, ◌*◌, ◌/◌, ◌%◌, ◌≤◌, ◌<◌}
+use Prim.Native.Nat.{ℕ, ◌+◌, ◌-◌, ◌*◌, ◌≤◌, ◌<◌}
 use mathlib.Core.Path.{◌≡◌, refl, sym, ◌∙◌, ap, subst}
 use mathlib.Core.Bool.{Bool, true, false}
 use mathlib.Core.List.{List}
@@ -12,7 +12,7 @@ use lib.Dec.{eqb}
 use lib.ListN.{length}
 use lib.Seq.{ext_get_or}
 use Rattle.octets.specs.Octet.{octet}
-use Rattle.octets.specs.Choice.{if◌then◌else◌}
+use Rattle.octets.specs.Choice.{when◌then◌else◌}
 use Rattle.octets.specs.Answer.{Answer, accepted, refused, ◌then◌}
 use Rattle.octets.specs.Filled.{filled}
 use Rattle.octets.specs.Among.{OneOf}
@@ -57,6 +57,7 @@ use Rattle.hub.proofs.Legality.{legal-stays, message-keeps-local}
 use Rattle.hub.proofs.Orders.{illegal-stays}
 use Rattle.board.specs.Board.{BoardAfter, board_after, totals_after, board_of, desk_board_of}
 use Rattle.board.specs.Arrival.{Standings, left_in}
+use Rattle.board.proofs.United.{united-row}
 use Rattle.board.proofs.Touching.{heard_by, whole-group, row-after, row_apart}
 use Rattle.board.proofs.Kept.{kept-so, board-totals, board-acts, spanned-is, desk-board-totals, desk-board-acts}
 
@@ -103,27 +104,6 @@ rows_same : (l k : List ℕ) → length l ≡ length k → ((i : ℕ) → octet 
 rows_same l k e h = ext_get_or 0 l k e (λ i q. h i)
 
 -- ---- rows
--- a block that is set once more stays
-blocked-again : (kind row : ℕ) → blocked_row kind (blocked_row kind row) ≡ blocked_row kind row
-unfolding blocked_row
-blocked-again kind row = go (eqb kind 0)
-  where
-    go : (t : Bool) → (if t then (if t then row / 4 * 4 + 2 + row % 2 else (row / 8 * 8 + 4 + row % 4) / 2 * 2) / 4 * 4 + 2 + (if t then row / 4 * 4 + 2 + row % 2 else (row / 8 * 8 + 4 + row % 4) / 2 * 2) % 2 else ((if t then row / 4 * 4 + 2 + row % 2 else (row / 8 * 8 + 4 + row % 4) / 2 * 2) / 8 * 8 + 4 + (if t then row / 4 * 4 + 2 + row % 2 else (row / 8 * 8 + 4 + row % 4) / 2 * 2) % 4) / 2 * 2)
-        ≡ (if t then row / 4 * 4 + 2 + row % 2 else (row / 8 * 8 + 4 + row % 4) / 2 * 2)
-    go true = omega arith
-    go false = omega arith
-
--- two blocks of one kind, with these marks, are one with their marks united
-united-row : (act : Act) → act ≡ BlockGroup → (kind : ℕ) (x y : Bool) (row : ℕ) → row_of act kind y (row_of act kind x row) ≡ row_of act kind (if x then true else y) row
-unfolding changed_row
-united-row act e kind x y row = ap (λ (z : Act). row_of z kind y (row_of z kind x row)) e ∙ go x y ∙ sym (ap (λ (z : Act). row_of z kind (if x then true else y) row) e)
-  where
-    go : (x y : Bool) → row_of BlockGroup kind y (row_of BlockGroup kind x row) ≡ row_of BlockGroup kind (if x then true else y) row
-    go true true = blocked-again kind row
-    go true false = refl
-    go false true = refl
-    go false false = refl
-
 -- ---- the same CGB twice, and two of one kind
 -- the hub with these rows
 abbrev at : List ℕ → List ℕ → Standings → Tables
@@ -148,7 +128,7 @@ reset-free rows act c e = ap (λ (x : Act). is_taken rows x c) e
 -- 22 looks at the act, its kind and the named circuits alone
 helps-alike : (T : Tables) (sender : ℕ) (a c : Ask) → a.act ≡ c.act → a.block ≡ c.block → a.circuit ≡ c.circuit → a.range ≡ c.range → is_unhelpable T sender a ≡ is_unhelpable T sender c
 unfolding is_unhelpable
-helps-alike T sender a c g k f r i = if may_help (g i) (k i) then false else is_found (first_unowned_lem T.owners sender (f i) (r i + 1))
+helps-alike T sender a c g k f r i = when may_help (g i) (k i) then false else is_found (first_unowned_lem T.owners sender (f i) (r i + 1))
 
 -- and at no row
 helps-any : (l k owners helpers : List ℕ) (sender : ℕ) (a : Ask) → is_unhelpable (tables l owners helpers) sender a ≡ false → is_unhelpable (tables k owners helpers) sender a ≡ false
@@ -159,7 +139,7 @@ helps-any l k owners helpers sender a e = e
 united-rows : (m₁ m₂ m₃ : List ℕ) (a₁ a₂ a₃ : Ask) (rows : List ℕ) → length rows ≡ 4096 → a₃.circuit + a₃.range ≤ 4095
     → a₁.act ≡ BlockGroup → a₂.act ≡ BlockGroup → a₃.act ≡ BlockGroup
     → a₁.block ≡ a₃.block → a₂.block ≡ a₃.block → a₁.circuit ≡ a₃.circuit → a₂.circuit ≡ a₃.circuit → a₁.range ≡ a₃.range → a₂.range ≡ a₃.range
-    → ((i : ℕ) → i ≤ a₃.range → mark_of m₃ a₃.status i ≡ (if mark_of m₁ a₁.status i then true else mark_of m₂ a₂.status i))
+    → ((i : ℕ) → i ≤ a₃.range → mark_of m₃ a₃.status i ≡ (when mark_of m₁ a₁.status i then true else mark_of m₂ a₂.status i))
     → rows_after m₃ a₃ rows ≡ rows_after m₂ a₂ (rows_after m₁ a₁ rows)
 united-rows m₁ m₂ m₃ a₁ a₂ a₃ rows sized last g₁ g₂ g₃ k₁ k₂ c₁ c₂ r₁ r₂ marks =
     rows_same (rows_after m₃ a₃ rows) (rows_after m₂ a₂ (rows_after m₁ a₁ rows))
@@ -213,7 +193,7 @@ module _ (owners helpers : List ℕ) where
       → ask_of m₁ ≡ accepted a₁ → ask_of m₂ ≡ accepted a₂ → ask_of m₃ ≡ accepted a₃
       → a₁.act ≡ BlockGroup → a₂.act ≡ BlockGroup → a₃.act ≡ BlockGroup
       → a₁.block ≡ a₃.block → a₂.block ≡ a₃.block → a₁.circuit ≡ a₃.circuit → a₂.circuit ≡ a₃.circuit → a₁.range ≡ a₃.range → a₂.range ≡ a₃.range
-      → ((i : ℕ) → i ≤ a₃.range → mark_of m₃ a₃.status i ≡ (if mark_of m₁ a₁.status i then true else mark_of m₂ a₂.status i))
+      → ((i : ℕ) → i ≤ a₃.range → mark_of m₃ a₃.status i ≡ (when mark_of m₁ a₁.status i then true else mark_of m₂ a₂.status i))
       → (heard_by owners helpers s p m₁ b₁).answer ≡ accepted n₁
       → (heard_by owners helpers (left_in (heard_by owners helpers s p m₁ b₁)) q m₂ b₂).answer ≡ accepted n₂
       → n₁ ≤ length b₃
@@ -239,7 +219,7 @@ module _ (owners helpers : List ℕ) where
           → ask_of m₁ ≡ accepted a₁ → ask_of m₂ ≡ accepted a₂ → ask_of m₃ ≡ accepted a₃
           → a₁.act ≡ BlockGroup → a₂.act ≡ BlockGroup → a₃.act ≡ BlockGroup
           → a₁.block ≡ a₃.block → a₂.block ≡ a₃.block → a₁.circuit ≡ a₃.circuit → a₂.circuit ≡ a₃.circuit → a₁.range ≡ a₃.range → a₂.range ≡ a₃.range
-          → ((i : ℕ) → i ≤ a₃.range → mark_of m₃ a₃.status i ≡ (if mark_of m₁ a₁.status i then true else mark_of m₂ a₂.status i))
+          → ((i : ℕ) → i ≤ a₃.range → mark_of m₃ a₃.status i ≡ (when mark_of m₁ a₁.status i then true else mark_of m₂ a₂.status i))
           → length s.totals ≡ 64
           → Allowed (at owners helpers s) p m₁ (length b₁) a₁
           → n₁ ≡ length (reply_of s.rows m₁ a₁)
@@ -314,7 +294,7 @@ module _ (owners helpers : List ℕ) where
             λ i. record { rows = (ap (λ (x : BoardAfter). x.states) whole ∙ rows) i; totals = (ap (λ (x : BoardAfter). x.totals) whole ∙ totals) i },
           )
         where
-          same-mark : (x : Bool) → x ≡ (if x then true else x)
+          same-mark : (x : Bool) → x ≡ (when x then true else x)
           same-mark true = refl
           same-mark false = refl
 
@@ -345,26 +325,6 @@ module _ (owners helpers : List ℕ) where
 
     long : length (heard_by owners helpers s p m b).states ≡ length s.rows
     long = ap length after-rows ∙ length-rows m a s.rows
-
-    -- the rows that GRS leaves are the same
-    same-reset : length s.rows ≡ 4096 → rows_after g y (heard_by owners helpers s p m b).states ≡ rows_after g y s.rows
-    same-reset sized =
-        rows_same (rows_after g y (heard_by owners helpers s p m b).states) (rows_after g y s.rows)
-        (length-rows g y (heard_by owners helpers s p m b).states ∙ long ∙ sym (length-rows g y s.rows))
-        (λ i. ⊎_elim (λ w. inside i w) (λ o. outside i o) (named-or y i))
-      where
-        inside : (i : ℕ) → Named y i → octet (rows_after g y (heard_by owners helpers s p m b).states) i ≡ octet (rows_after g y s.rows) i
-        inside i w =
-            row_inside g y (heard_by owners helpers s p m b).states i w (omega (arith, sized, long, ask-last g y reset))
-            ∙ reset-row g y i (octet s.rows i) (octet (heard_by owners helpers s p m b).states i) grs (whole-group g y ResetGroup reset grs (λ x. refl)) (ap (λ (l : List ℕ). local (octet l i)) same ∙ message-keeps-local (at owners helpers s) p m b i)
-            ∙ sym (row_inside g y s.rows i w (omega (arith, sized, ask-last g y reset)))
-
-        outside : (i : ℕ) → (i < y.circuit) ⊎ (y.circuit + y.range < i) → octet (rows_after g y (heard_by owners helpers s p m b).states) i ≡ octet (rows_after g y s.rows) i
-        outside i o =
-            row-outside g y (heard_by owners helpers s p m b).states i o
-            ∙ ap (λ (l : List ℕ). octet l i) after-rows
-            ∙ row-outside m a s.rows i (⊎_elim (λ l. inl (omega (arith, l, low))) (λ l. inr (omega (arith, l, high))) o)
-            ∙ sym (row-outside g y s.rows i o)
 
     -- it is granted after the message exactly where it is granted alone
     granted-after : (room : ℕ) → grant_of (at owners helpers s) p g room ≡ accepted y → grant_of (at owners helpers left) p g room ≡ accepted y
@@ -420,6 +380,26 @@ module _ (owners helpers : List ℕ) where
           rows = (ap (λ (t : BoardAfter). t.states) x ∙ rows ∙ sym (ap (λ (t : BoardAfter). t.states) z)) i;
           totals = (ap (λ (t : BoardAfter). t.totals) x ∙ totals ∙ sym (ap (λ (t : BoardAfter). t.totals) z)) i;
         }
+      where
+        -- the rows that GRS leaves are the same
+        same-reset : length s.rows ≡ 4096 → rows_after g y (heard_by owners helpers s p m b).states ≡ rows_after g y s.rows
+        same-reset sized =
+            rows_same (rows_after g y (heard_by owners helpers s p m b).states) (rows_after g y s.rows)
+            (length-rows g y (heard_by owners helpers s p m b).states ∙ long ∙ sym (length-rows g y s.rows))
+            (λ i. ⊎_elim (λ w. inside i w) (λ o. outside i o) (named-or y i))
+          where
+            inside : (i : ℕ) → Named y i → octet (rows_after g y (heard_by owners helpers s p m b).states) i ≡ octet (rows_after g y s.rows) i
+            inside i w =
+                row_inside g y (heard_by owners helpers s p m b).states i w (omega (arith, sized, long, ask-last g y reset))
+                ∙ reset-row g y i (octet s.rows i) (octet (heard_by owners helpers s p m b).states i) grs (whole-group g y ResetGroup reset grs (λ x. refl)) (ap (λ (l : List ℕ). local (octet l i)) same ∙ message-keeps-local (at owners helpers s) p m b i)
+                ∙ sym (row_inside g y s.rows i w (omega (arith, sized, ask-last g y reset)))
+
+            outside : (i : ℕ) → (i < y.circuit) ⊎ (y.circuit + y.range < i) → octet (rows_after g y (heard_by owners helpers s p m b).states) i ≡ octet (rows_after g y s.rows) i
+            outside i o =
+                row-outside g y (heard_by owners helpers s p m b).states i o
+                ∙ ap (λ (l : List ℕ). octet l i) after-rows
+                ∙ row-outside m a s.rows i (⊎_elim (λ l. inl (omega (arith, l, low))) (λ l. inr (omega (arith, l, high))) o)
+                ∙ sym (row-outside g y s.rows i o)
 
 -- ---- where there is no law
 module _ (owners helpers : List ℕ) where
@@ -442,7 +422,7 @@ module _ (owners helpers : List ℕ) where
       one : (kind : ℕ) (x : Bool) → row_of BlockGroup kind x 0 ≡ 6 → ⊥
       one kind true e = pick (eqb kind 0) e
         where
-          pick : (t : Bool) → ◌≡◌ {A = ℕ} (if t then 2 else 4) 6 → ⊥
+          pick : (t : Bool) → ◌≡◌ {A = ℕ} (when t then 2 else 4) 6 → ⊥
           pick true e = omega (arith, e)
           pick false e = omega (arith, e)
       one kind false e = omega (arith, e)

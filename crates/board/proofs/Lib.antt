@@ -2,7 +2,9 @@ pub mod Kept
 pub mod Judged
 pub mod Orders
 pub mod Pairs
+pub mod Commute
 pub mod Touching
+pub mod United
 pub mod Laws
 pub mod Refutations
 pub mod Instances

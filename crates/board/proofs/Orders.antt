@@ -10,7 +10,7 @@ use lib.Dec.{ltb, eqb}
 use lib.ListN.{length}
 use lib.Seq.{ext_get_or}
 use Rattle.octets.specs.Octet.{octet}
-use Rattle.octets.specs.Choice.{if◌then◌else◌}
+use Rattle.octets.specs.Choice.{when◌then◌else◌}
 use Rattle.octets.specs.Answer.{Answer, accepted, refused}
 use Rattle.octets.proofs.Answer.{accepted-same, refused-same, refused-accepted}
 use Rattle.octets.proofs.Choice.{chosen, true-false}
@@ -43,23 +43,23 @@ module _ (owners helpers : List ℕ) where
   kept-is (ours circuit set) buffer s = refl
 
   -- the rows that it leaves: the hub's, or all as they were where there are not 64 totals
-  pub rows_left : (a : Event) (buffer : List ℕ) (s : Standings) (t : Bool) → eqb (length s.totals) 64 ≡ t → (kept_by owners helpers a buffer s).states ≡ (if t then (done_by owners helpers a buffer s.rows).states else s.rows)
+  pub rows_left : (a : Event) (buffer : List ℕ) (s : Standings) (t : Bool) → eqb (length s.totals) 64 ≡ t → (kept_by owners helpers a buffer s).states ≡ (when t then (done_by owners helpers a buffer s.rows).states else s.rows)
   rows_left a buffer s true e = ap (λ (x : BoardAfter). x.states) (kept-is a buffer s) ∙ rw e refl
   rows_left a buffer s false e = ap (λ (x : BoardAfter). x.states) (kept-is a buffer s) ∙ rw e refl
 
   -- its answer, likewise
-  pub answer-left : (a : Event) (buffer : List ℕ) (s : Standings) (t : Bool) → eqb (length s.totals) 64 ≡ t → (kept_by owners helpers a buffer s).answer ≡ (if t then (done_by owners helpers a buffer s.rows).answer else refused 16 0)
+  pub answer-left : (a : Event) (buffer : List ℕ) (s : Standings) (t : Bool) → eqb (length s.totals) 64 ≡ t → (kept_by owners helpers a buffer s).answer ≡ (when t then (done_by owners helpers a buffer s.rows).answer else refused 16 0)
   answer-left a buffer s true e = ap (λ (x : BoardAfter). x.answer) (kept-is a buffer s) ∙ rw e refl
   answer-left a buffer s false e = ap (λ (x : BoardAfter). x.answer) (kept-is a buffer s) ∙ rw e refl
 
   -- and its buffer
-  pub buffer-left : (a : Event) (buffer : List ℕ) (s : Standings) (t : Bool) → eqb (length s.totals) 64 ≡ t → (kept_by owners helpers a buffer s).buffer ≡ (if t then (done_by owners helpers a buffer s.rows).buffer else buffer)
+  pub buffer-left : (a : Event) (buffer : List ℕ) (s : Standings) (t : Bool) → eqb (length s.totals) 64 ≡ t → (kept_by owners helpers a buffer s).buffer ≡ (when t then (done_by owners helpers a buffer s.rows).buffer else buffer)
   buffer-left a buffer s true e = ap (λ (x : BoardAfter). x.buffer) (kept-is a buffer s) ∙ rw e refl
   buffer-left a buffer s false e = ap (λ (x : BoardAfter). x.buffer) (kept-is a buffer s) ∙ rw e refl
 
   -- its totals: where there are 64, and the call is accepted, the named blocks are counted anew
   pub totals-left : (a : Event) (buffer : List ℕ) (s : Standings) (t : Bool) → eqb (length s.totals) 64 ≡ t
-      → (kept_by owners helpers a buffer s).totals ≡ (if t then totals_after (done_by owners helpers a buffer s.rows).states (named_by a (done_by owners helpers a buffer s.rows).answer) s.totals else s.totals)
+      → (kept_by owners helpers a buffer s).totals ≡ (when t then totals_after (done_by owners helpers a buffer s.rows).states (named_by a (done_by owners helpers a buffer s.rows).answer) s.totals else s.totals)
   totals-left a buffer s true e = ap (λ (x : BoardAfter). x.totals) (kept-is a buffer s) ∙ rw e refl
   totals-left a buffer s false e = ap (λ (x : BoardAfter). x.totals) (kept-is a buffer s) ∙ rw e refl
 
@@ -116,23 +116,23 @@ board-apart owners helpers = record {
           ),
         )
       where
-        same : (b : Bool) → (done_by owners helpers a buffer s.rows).answer ≡ (done_by owners helpers a buffer t.rows).answer → (if b then (done_by owners helpers a buffer s.rows).answer else refused 16 0) ≡ (if b then (done_by owners helpers a buffer t.rows).answer else refused 16 0)
+        same : (b : Bool) → (done_by owners helpers a buffer s.rows).answer ≡ (done_by owners helpers a buffer t.rows).answer → (when b then (done_by owners helpers a buffer s.rows).answer else refused 16 0) ≡ (when b then (done_by owners helpers a buffer t.rows).answer else refused 16 0)
         same true h = h
         same false h = refl
 
-        held : (b : Bool) → (done_by owners helpers a buffer s.rows).buffer ≡ (done_by owners helpers a buffer t.rows).buffer → (if b then (done_by owners helpers a buffer s.rows).buffer else buffer) ≡ (if b then (done_by owners helpers a buffer t.rows).buffer else buffer)
+        held : (b : Bool) → (done_by owners helpers a buffer s.rows).buffer ≡ (done_by owners helpers a buffer t.rows).buffer → (when b then (done_by owners helpers a buffer s.rows).buffer else buffer) ≡ (when b then (done_by owners helpers a buffer t.rows).buffer else buffer)
         held true h = h
         held false h = refl
 
         rows : (b : Bool) (i : ℕ) → octet s.rows i ≡ octet t.rows i → octet (done_by owners helpers a buffer s.rows).states i ≡ octet (done_by owners helpers a buffer t.rows).states i
-            → octet (if b then (done_by owners helpers a buffer s.rows).states else s.rows) i ≡ octet (if b then (done_by owners helpers a buffer t.rows).states else t.rows) i
+            → octet (when b then (done_by owners helpers a buffer s.rows).states else s.rows) i ≡ octet (when b then (done_by owners helpers a buffer t.rows).states else t.rows) i
         rows true i g h = h
         rows false i g h = g
 
 -- ---- the totals: which calls set one
 -- block k holds a circuit that is named, by the call and its answer
 abbrev pub sets_block : Answer Deed → ℕ → Bool
-sets_block (accepted d) k = if ltb k (d.first / 64) then false else (if ltb (d.last / 64) k then false else true)
+sets_block (accepted d) k = when ltb k (d.first / 64) then false else (when ltb (d.last / 64) k then false else true)
 sets_block (refused n at) k = false
 
 -- what an accepted call names lies in the table, and its rows alone change
@@ -229,7 +229,7 @@ board-counts owners helpers = record {
     beyond : (d : Deed) (k : ℕ) → sets_block (accepted d) k ≡ false → (k < d.first / 64) ⊎ (d.last / 64 < k)
     beyond d k e = go (ltb k (d.first / 64)) (ltb (d.last / 64) k) refl refl e
       where
-        go : (s t : Bool) → ltb k (d.first / 64) ≡ s → ltb (d.last / 64) k ≡ t → (if s then false else (if t then false else true)) ≡ false → (k < d.first / 64) ⊎ (d.last / 64 < k)
+        go : (s t : Bool) → ltb k (d.first / 64) ≡ s → ltb (d.last / 64) k ≡ t → (when s then false else (when t then false else true)) ≡ false → (k < d.first / 64) ⊎ (d.last / 64 < k)
         go true t p q h = inl (ltb-true k (d.first / 64) p)
         go false true p q h = inr (ltb-true (d.last / 64) k q)
         go false false p q h = absurd (true-false {t = true} refl h)
@@ -308,7 +308,7 @@ order-counted-with-no-helpers owners helpers none cs ds ls s m n = order-does-no
 -- at the end a total is the count of the final rows if some accepted call named a circuit of its
 -- block, else what it was: no total is in a party's hands
 pub totals-settled : (owners helpers : List ℕ) (cs : List Call) (s : Standings) (k : ℕ)
-    → octet (state_after (board owners helpers) cs s).totals k ≡ (if touched (board owners helpers) (board-counts owners helpers) cs s k then block_count_lem (state_after (board owners helpers) cs s).rows k else octet s.totals k)
+    → octet (state_after (board owners helpers) cs s).totals k ≡ (when touched (board owners helpers) (board-counts owners helpers) cs s k then block_count_lem (state_after (board owners helpers) cs s).rows k else octet s.totals k)
 unfolding board-counts
 totals-settled owners helpers cs s k = settled (board owners helpers) (board-counts owners helpers) cs s k
 

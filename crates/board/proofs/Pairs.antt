@@ -3,15 +3,14 @@
 use Prim.Native.Nat.{ℕ, ◌+◌, ◌≤◌, ◌<◌}
 use mathlib.Core.Path.{◌≡◌, refl, sym, ◌∙◌, ap}
 use mathlib.Core.Bool.{Bool, true, false}
-use mathlib.Core.List.{List, [], ◌∷◌, ◌++◌}
+use mathlib.Core.List.{List, [], ◌∷◌}
 use mathlib.Core.Logic.{◌⊎◌, inl, inr, ⊎_elim, ◌↔◌}
 use native.Mathlib.Omega.{arith}
 use borrow.Author.Tests.{eq-eqb, ne_eqb, eqb-true, eqb-false, le-ltb, ltb-true, ltb-false}
 use lib.Dec.{ltb, eqb}
 use lib.ListN.{length}
-use lib.Seq.{ext_get_or}
 use Rattle.octets.specs.Octet.{octet}
-use Rattle.octets.specs.Choice.{if◌then◌else◌}
+use Rattle.octets.specs.Choice.{when◌then◌else◌}
 use Rattle.octets.specs.Answer.{Answer, accepted, refused}
 use Rattle.octets.specs.Faults.{None, fault}
 use Rattle.octets.proofs.Choice.{chosen, decided, true-false}
@@ -19,14 +18,12 @@ use Rattle.asks.specs.declared.Ask.{Ask}
 use Rattle.asks.specs.Asks.{ask_of}
 use Rattle.asks.specs.Faults.{ask_faults}
 use Rattle.asks.proofs.Judged.{ask-judges}
-use Rattle.arrival.specs.Calls.{state_after, answers}
 use Rattle.arrival.specs.Pair.{Local}
-use Rattle.arrival.proofs.Pair.{same_rows, same-totals, same_first, same_second}
 use Rattle.rights.specs.Tables.{Tables, tables, sized}
 use Rattle.hub.specs.Acts.{After, after, grant_of, act_of}
 use Rattle.rights.specs.Names.{Names}
 use Rattle.rights.specs.Faults.{WrongTables}
-use Rattle.hub.specs.Arrival.{Event, heard, ours, Call, done_by, Reply}
+use Rattle.hub.specs.Arrival.{Event, heard, ours, Call, done_by}
 use Rattle.hub.proofs.Called.{act-keeps, untouched}
 use Rattle.hub.proofs.Local.{local-answer, local-buffer, local-rows}
 use Rattle.hub.proofs.Desk.{desk-keeps, desk-16, desk-alike, desk-rows-alike, desk-untouched}
@@ -35,7 +32,7 @@ use Rattle.board.specs.Board.{totals_after}
 use Rattle.board.specs.Arrival.{Standings, named_by, kept_by, replied_by, left_in, board}
 use Rattle.board.specs.Faults.{WrongTotals}
 use Rattle.board.specs.Names.{NamesAt, is_named, call_names}
-use Rattle.board.proofs.Orders.{rows_left, answer-left, buffer-left, totals-left, board-apart, board-counts}
+use Rattle.board.proofs.Orders.{rows_left, answer-left, buffer-left, totals-left, board-apart}
 
 -- ---- the test and the statement
 pub named-is : (m : List ℕ) (i : ℕ) → is_named (ask_of m) i ≡ true → Names m i
@@ -81,7 +78,7 @@ module _ (owners helpers : List ℕ) where
           × ((act_of (tables s owners helpers) sender m buffer).buffer ≡ (act_of (tables t owners helpers) sender m buffer).buffer)
           × ((i : ℕ) → call_names owners helpers (heard sender m) i ≡ true → octet (act_of (tables s owners helpers) sender m buffer).states i ≡ octet (act_of (tables t owners helpers) sender m buffer).states i)
       wrong e =
-          let f : sized (tables t owners helpers) ≡ false = ap (λ (n : ℕ). if eqb n 4096 then (if eqb (length owners) 4096 then eqb (length helpers) 4096 else false) else false) (sym long) ∙ e in
+          let f : sized (tables t owners helpers) ≡ false = ap (λ (n : ℕ). when eqb n 4096 then (when eqb (length owners) 4096 then eqb (length helpers) 4096 else false) else false) (sym long) ∙ e in
           let p = act-wrong (tables s owners helpers) sender m buffer e in
           let q = act-wrong (tables t owners helpers) sender m buffer f in (
             sym (ap (λ (x : After). x.answer) p) ∙ ap (λ (x : After). x.answer) q,
@@ -118,11 +115,11 @@ module _ (owners helpers : List ℕ) where
       wrong : sized (tables s owners helpers) ≡ false → octet (act_of (tables s owners helpers) sender m buffer).states i ≡ octet s i
       wrong e = sym (ap (λ (x : After). octet x.states i) (act-wrong (tables s owners helpers) sender m buffer e))
 
-      off : (x : Bool) → (if x then false else false) ≡ false
+      off : (x : Bool) → (when x then false else false) ≡ false
       off true = refl
       off false = refl
 
-      go : (x y : Bool) → eqb (length owners) 4096 ≡ x → eqb (length helpers) 4096 ≡ y → (if x then (if y then is_named (ask_of m) i else false) else false) ≡ false → octet (act_of (tables s owners helpers) sender m buffer).states i ≡ octet s i
+      go : (x y : Bool) → eqb (length owners) 4096 ≡ x → eqb (length helpers) 4096 ≡ y → (when x then (when y then is_named (ask_of m) i else false) else false) ≡ false → octet (act_of (tables s owners helpers) sender m buffer).states i ≡ octet s i
       go true true f g h = untouched (tables s owners helpers) sender m buffer i (λ n. true-false (is-named m i n) h)
       go true false f g h = wrong (rw (f, g) (off (eqb (length s) 4096)))
       go false y f g h = wrong (rw f (off (eqb (length s) 4096)))
@@ -173,7 +170,7 @@ module _ (owners helpers : List ℕ) where
 
   -- ---- two calls
   -- where there are not 4096 rows, or not 64 totals, a call is 16 and leaves all as it was
-  idle-after : (a : Event) (buffer : List ℕ) (s : Standings) → ((length s.rows ≡ 4096) × (length s.totals ≡ 64) → ⊥) → left_in (kept_by owners helpers a buffer s) ≡ s
+  pub idle-after : (a : Event) (buffer : List ℕ) (s : Standings) → ((length s.rows ≡ 4096) × (length s.totals ≡ 64) → ⊥) → left_in (kept_by owners helpers a buffer s) ≡ s
   idle-after a buffer s out = go (eqb (length s.totals) 64) refl
     where
       short : (length s.rows ≡ 4096 → ⊥) → (x : Event) → (done_by owners helpers x buffer s.rows).answer ≡ refused 16 0 → (done_by owners helpers x buffer s.rows).states ≡ s.rows
@@ -203,7 +200,7 @@ module _ (owners helpers : List ℕ) where
           }
 
   -- a call that is named by the test is named by the statement
-  names-so : (s : Standings) → length s.rows ≡ 4096 → length s.totals ≡ 64 → (a : Event) (i : ℕ) → call_names owners helpers a i ≡ true → NamesAt owners helpers s a i
+  pub names-so : (s : Standings) → length s.rows ≡ 4096 → length s.totals ≡ 64 → (a : Event) (i : ℕ) → call_names owners helpers a i ≡ true → NamesAt owners helpers s a i
   names-so s p q (heard sender m) i h =
       ⊎_elim
       (λ w. ⊎_elim (λ u. (p, eqb-true (length owners) 4096 w.0, eqb-true (length helpers) 4096 u.0, q, named-is m i u.1)) (λ u. absurd (true-false {t = false} u.1 refl)) (chosen (eqb (length helpers) 4096) w.1))
@@ -255,70 +252,3 @@ module _ (owners helpers : List ℕ) where
       ((board owners helpers).after d ((board owners helpers).after c s) ≡ (board owners helpers).after c ((board owners helpers).after d s))
       × ((board owners helpers).answer c s ≡ (board owners helpers).answer c ((board owners helpers).after d s))
       × ((board owners helpers).answer d ((board owners helpers).after c s) ≡ (board owners helpers).answer d s)
-
-  -- two calls, whoever sends them, each with its own answer buffer: the same rows and totals, and
-  -- the same answers, in either order
-  pub calls-commute : (s : Standings) (c d : Call) → Apart-at s c d
-      → Either-order s c d
-  unfolding board-counts
-  calls-commute s c d out = go (eqb (length s.rows) 4096) (eqb (length s.totals) 64) refl refl
-    where
-      idle : ((length s.rows ≡ 4096) × (length s.totals ≡ 64) → ⊥)
-          → Either-order s c d
-      idle n =
-          let p = idle-after c.asks c.buffer s n in
-          let q = idle-after d.asks d.buffer s n in (
-            ap ((board owners helpers).after d) p ∙ q ∙ sym (ap ((board owners helpers).after c) q ∙ p),
-            ap ((board owners helpers).answer c) (sym q),
-            ap ((board owners helpers).answer d) p,
-          )
-
-      go : (x y : Bool) → eqb (length s.rows) 4096 ≡ x → eqb (length s.totals) 64 ≡ y
-          → Either-order s c d
-      go true true e f =
-          let p = eqb-true (length s.rows) 4096 e in
-          let q = eqb-true (length s.totals) 64 f in
-          let apart : (i : ℕ) → call_names owners helpers c.asks i ≡ true → call_names owners helpers d.asks i ≡ true → ⊥ = λ i h k. out i (names-so s p q c.asks i h) (names-so s p q d.asks i k) in
-          let one = (board owners helpers).after d ((board owners helpers).after c s) in
-          let two = (board owners helpers).after c ((board owners helpers).after d s) in
-          let sizes = ((board-apart owners helpers).keeps d ((board owners helpers).after c s)).0 ∙ ((board-apart owners helpers).keeps c s).0 ∙ sym (((board-apart owners helpers).keeps c ((board owners helpers).after d s)).0 ∙ ((board-apart owners helpers).keeps d s).0) in
-          let rows = ext_get_or 0 one.rows two.rows (heads sizes) (λ i h. same_rows (board owners helpers) (λ x j. call_names owners helpers x.asks j) board-local (board-counts owners helpers) c d apart s i) in
-          let totals = ext_get_or 0 one.totals two.totals (seconds sizes) (λ k h. same-totals (board owners helpers) (λ x j. call_names owners helpers x.asks j) board-local (board-counts owners helpers) c d apart s k) in (
-            (λ i. record { rows = rows i; totals = totals i }),
-            same_first (board owners helpers) (λ x j. call_names owners helpers x.asks j) board-local (board-counts owners helpers) c d apart s,
-            same_second (board owners helpers) (λ x j. call_names owners helpers x.asks j) board-local (board-counts owners helpers) c d apart s,
-          )
-        where
-          heads : {a b k l : ℕ} → a ∷ b ∷ [] ≡ k ∷ l ∷ [] → a ≡ k
-          heads e = cc
-
-          seconds : {a b k l : ℕ} → a ∷ b ∷ [] ≡ k ∷ l ∷ [] → b ≡ l
-          seconds e = cc
-      go true false e f = idle (λ w. eqb-false (length s.totals) 64 f w.1)
-      go false y e f = idle (λ w. eqb-false (length s.rows) 4096 e w.0)
-
-  -- ---- lists: two neighbours that do not touch may change places, and the rest of the run is the same
-  pub neighbours-commute : (bs cs : List Call) (c d : Call) (s : Standings) → Apart-at (state_after (board owners helpers) bs s) c d
-      → state_after (board owners helpers) (bs ++ (c ∷ d ∷ cs)) s ≡ state_after (board owners helpers) (bs ++ (d ∷ c ∷ cs)) s
-  unfolding state_after
-  neighbours-commute [] cs c d s out = ap (state_after (board owners helpers) cs) (calls-commute s c d out).0
-  neighbours-commute (b ∷ bs) cs c d s out = neighbours-commute bs cs c d ((board owners helpers).after b s) out
-
-  -- with the two answers exchanged, and every other answer the same
-  pub neighbours-answer : (bs cs : List Call) (c d : Call) (s : Standings) → Apart-at (state_after (board owners helpers) bs s) c d
-      → (rs : List Reply) × (ts : List Reply) × (x : Reply) × (y : Reply)
-      × (answers (board owners helpers) (bs ++ (c ∷ d ∷ cs)) s ≡ rs ++ (x ∷ y ∷ ts))
-      × (answers (board owners helpers) (bs ++ (d ∷ c ∷ cs)) s ≡ rs ++ (y ∷ x ∷ ts))
-  unfolding state_after answers
-  neighbours-answer [] cs c d s out =
-      let w = calls-commute s c d out in (
-        [],
-        answers (board owners helpers) cs ((board owners helpers).after d ((board owners helpers).after c s)),
-        (board owners helpers).answer c s,
-        (board owners helpers).answer d ((board owners helpers).after c s),
-        refl,
-        λ i. sym w.2 i ∷ sym w.1 i ∷ answers (board owners helpers) cs (sym w.0 i),
-      )
-  neighbours-answer (b ∷ bs) cs c d s out =
-      let w = neighbours-answer bs cs c d ((board owners helpers).after b s) out in
-      ((board owners helpers).answer b s ∷ w.0, w.1, w.2, w.3, ap (λ (l : List Reply). (board owners helpers).answer b s ∷ l) w.4, ap (λ (l : List Reply). (board owners helpers).answer b s ∷ l) w.5)

@@ -30,7 +30,7 @@ use Rattle.board.specs.Board.{BoardAfter, board_after, board_of}
 use Rattle.board.specs.Arrival.{Standings, board}
 use Rattle.board.proofs.Kept.{named-totals-right, board-keeps}
 use Rattle.board.proofs.Orders.{totals-length, rows_left, answer-left, buffer-left}
-use Rattle.board.proofs.Pairs.{calls-commute}
+use Rattle.board.proofs.Commute.{calls-commute}
 
 -- 64 totals, of which the first says 1
 abbrev one_busy : List ℕ

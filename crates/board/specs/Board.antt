@@ -1,6 +1,6 @@
 -- The calls with the totals of busy circuits kept: 64 totals, one for each 64 circuits.
 use Rattle.std.specs.Prelude.{ℕ, Bool, List, eqb, length}
-use Rattle.octets.specs.Choice.{if◌then◌else◌}
+use Rattle.octets.specs.Choice.{when◌then◌else◌}
 use Rattle.octets.specs.Answer.{Answer, accepted, refused}
 use Rattle.totals.specs.Blocks.{recounted}
 use Rattle.asks.specs.Asks.{ask_of}
@@ -30,7 +30,7 @@ totals_after rows (refused n at) totals = totals
 -- a call that is done on the rows, with the totals kept; 16 where there are not 64 of them
 abbrev pub keeping : List ℕ → List ℕ → List ℕ → (Answer ℕ → Answer Deed) → After → BoardAfter
 keeping states totals buffer named r =
-    if eqb (length totals) 64 then board_after r.answer r.states (totals_after r.states (named r.answer) totals) r.buffer
+    when eqb (length totals) 64 then board_after r.answer r.states (totals_after r.states (named r.answer) totals) r.buffer
     else board_after (refused 16 0) states totals buffer
 
 -- a message from a sender: it names circuits m to m+r

@@ -5,7 +5,7 @@ use mathlib.Core.Bool.{Bool, true, false}
 use native.Mathlib.Omega.{arith}
 use borrow.Author.Tests.{lt-ltb, le-ltb, ne_eqb, ltb-false, eqb-false}
 use lib.Dec.{ltb, eqb}
-use Rattle.octets.specs.Choice.{if◌then◌else◌}
+use Rattle.octets.specs.Choice.{when◌then◌else◌}
 use Rattle.book.specs.declared.Await.TheVariants.{Span, Head}
 use Rattle.book.specs.Book.{Span as Owned, GoodSpan}
 use Rattle.book.specs.Awaits.{spans_await_lem, entries_await_lem, bad_span_lem}
@@ -22,7 +22,7 @@ span-good next s g =
 pub span-passed : (next first last sender : ℕ) → bad_span_lem next first last sender ≡ false → (next ≤ first) × (first ≤ last) × (last ≤ 4095) × (sender ≡ 0 → ⊥)
 span-passed next first last sender e = go (ltb first next) refl (ltb last first) refl (ltb 4095 last) refl e
   where
-    go : (a : Bool) → ltb first next ≡ a → (b : Bool) → ltb last first ≡ b → (c : Bool) → ltb 4095 last ≡ c → (if a then true else (if b then true else (if c then true else eqb sender 0))) ≡ false → (next ≤ first) × (first ≤ last) × (last ≤ 4095) × (sender ≡ 0 → ⊥)
+    go : (a : Bool) → ltb first next ≡ a → (b : Bool) → ltb last first ≡ b → (c : Bool) → ltb 4095 last ≡ c → (when a then true else (when b then true else (when c then true else eqb sender 0))) ≡ false → (next ≤ first) × (first ≤ last) × (last ≤ 4095) × (sender ≡ 0 → ⊥)
     go true p b q c r f = absurd (let z : ◌≡◌ {A = ℕ} 0 1 = cc in omega arith)
     go false p true q c r f = absurd (let z : ◌≡◌ {A = ℕ} 0 1 = cc in omega arith)
     go false p false q true r f = absurd (let z : ◌≡◌ {A = ℕ} 0 1 = cc in omega arith)

@@ -1,4 +1,6 @@
 // A book as its octets come: what comes next, from the numbers so far.
+#![tactic(auto)]
+
 ghost use Rattle.std.specs.Prelude.{◌≡◌, ◌+◌, ◌*◌, ◌<◌};
 ghost use Rattle.book.specs.Awaits.{want_of, spans_await_lem, entries_await_lem, bad_span_lem};
 
@@ -6,7 +8,7 @@ ghost use Rattle.book.specs.Awaits.{want_of, spans_await_lem, entries_await_lem,
 // may have; a count of messages; a message's head, with
 // how many are left; its octets, with how many messages are left, the sender and the message's
 // length; nothing more; nothing, since the book is no book.
-#[derive(Drop)]
+#[derive(Clone, Copy)]
 pub enum Await {
     SpanCount,
     Span(usize, usize),
@@ -18,7 +20,7 @@ pub enum Await {
 }
 
 // Where a book is: what is awaited, and how many octets of it have come.
-#[derive(Drop)]
+#[derive(Clone, Copy)]
 pub struct Place {
     pub awaits: Await,
     pub held: usize,

@@ -1,6 +1,6 @@
 -- What the functions for C give: a number, and what the lent buffer holds afterwards.
 use Rattle.std.specs.Prelude.{ℕ, ◌≤◌, List, [], ◌∷◌, eqb}
-use Rattle.octets.specs.Choice.{if◌then◌else◌}
+use Rattle.octets.specs.Choice.{when◌then◌else◌}
 use Rattle.octets.specs.Filled.{Done}
 use Rattle.telling.specs.Telling.{packed}
 use Rattle.parts.specs.declared.Span.{Span}
@@ -22,7 +22,7 @@ given_by d = given (packed d.answer) d.left
 
 -- where the fixed part starts; 0 for a type that has none
 abbrev pub fixed_start_lem : Span → ℕ
-fixed_start_lem s = if eqb s.from s.to then 0 else s.from
+fixed_start_lem s = when eqb s.from s.to then 0 else s.from
 
 -- start and length of the fixed part, of the first and of the second
 -- contents, and of the optional run

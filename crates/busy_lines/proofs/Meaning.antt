@@ -9,7 +9,7 @@ use lib.Dec.{eqb}
 use lib.ListN.{length, set}
 use lib.Seq.{get_or-set_same, get_or-set_other}
 use Rattle.octets.specs.Octet.{octet}
-use Rattle.octets.specs.Choice.{if◌then◌else◌}
+use Rattle.octets.specs.Choice.{when◌then◌else◌}
 use Rattle.octets.specs.Answer.{refused}
 use Rattle.octets.specs.Filled.{Done}
 use Rattle.totals.specs.Blocks.{AllRight, rebuild_of}
@@ -30,9 +30,9 @@ module _ (states totals : List ℕ) (gs : List FieldSays) where
   others-keep-totals which l m t r = go (eqb which BUSY) (eqb which TOTALS) (eqb which TOTAL) refl refl refl
     where
       go : (a b c : Bool) → eqb which BUSY ≡ a → eqb which TOTALS ≡ b → eqb which TOTAL ≡ c
-          → (if a then busy_after totals (busy_line (busy_between_lem states totals (number_at gs 0) (number_at gs 1)))
-          else if b then busy_after totals (shown "totals " totals)
-          else if c then busy_after (set totals (number_at gs 0) (octet_at_lem gs 1)) (said "ok")
+          → (when a then busy_after totals (busy_line (busy_between_lem states totals (number_at gs 0) (number_at gs 1)))
+          else when b then busy_after totals (shown "totals " totals)
+          else when c then busy_after (set totals (number_at gs 0) (octet_at_lem gs 1)) (said "ok")
           else rebuilt states totals).totals ≡ totals
       go true b c p q e = refl
       go false true c p q e = refl

@@ -1,7 +1,7 @@
 -- What the requests about how many circuits are busy do (busy, totals, total, rebuild): the totals
 -- afterwards, and the answer's line. None of them changes a row.
 use Rattle.std.specs.Prelude.{ℕ, List, ◌++◌, eqb, set}
-use Rattle.octets.specs.Choice.{if◌then◌else◌}
+use Rattle.octets.specs.Choice.{when◌then◌else◌}
 use Rattle.octets.specs.Answer.{Answer, accepted, refused}
 use Rattle.totals.specs.declared.Count.{Count}
 use Rattle.totals.specs.Blocks.{rebuild_of}
@@ -45,10 +45,10 @@ rebuilt states totals =
 -- one, right or wrong, and rebuild, the family's last, counts all anew
 unfoldable pub busy_done : List ℕ → List ℕ → ℕ → List FieldSays → BusyAfter
 busy_done states totals which gs =
-    if eqb which BUSY
+    when eqb which BUSY
     then busy_after totals (busy_line (busy_between_lem states totals (number_at gs 0) (number_at gs 1)))
-    else if eqb which TOTALS then busy_after totals (shown "totals " totals)
-    else if eqb which TOTAL then busy_after (set totals (number_at gs 0) (octet_at_lem gs 1)) (said "ok")
+    else when eqb which TOTALS then busy_after totals (shown "totals " totals)
+    else when eqb which TOTAL then busy_after (set totals (number_at gs 0) (octet_at_lem gs 1)) (said "ok")
     else rebuilt states totals
 
 -- the totals and the lent sheet afterwards

@@ -1,5 +1,7 @@
 // What the desk answers to the requests about how many circuits are busy (busy, totals, total,
 // rebuild), and what they leave in the totals.
+#![tactic(auto)]
+
 ghost use Rattle.std.specs.Prelude.{◌≡◌, [], set};
 ghost use Rattle.totals.specs.Question.{busy_between_lem};
 ghost use Rattle.printing.specs.Sheet.{sheet, pour};

@@ -1,6 +1,8 @@
 // BICC for C and Rust: reading and writing. With `llachurep` and its like they are one library.
 // They are a crate of their own so that its object has one reader and one writer of parts, which
 // the compiler puts where they are called.
+#![tactic(auto)]
+
 ghost use Rattle.std.specs.Prelude.{◌≡◌, ◌≤◌, length};
 ghost use Rattle.octets.specs.Filled.{filled};
 ghost use Rattle.parts.specs.Spans.{span_size};

@@ -1,4 +1,6 @@
 // What becomes of a row, what may be said of it, and what a query answers for it.
+#![tactic(auto)]
+
 ghost use Rattle.std.specs.Prelude.{◌≡◌};
 ghost use Rattle.octets.specs.Octet.{octet};
 ghost use Rattle.rows.specs.Rows.{is_legal, blocked_row, unblocked_row, changed_row, local_row, circuit_state_lem};

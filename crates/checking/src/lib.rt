@@ -1,5 +1,7 @@
 // A plan of a maintenance night, checked: each of its messages is judged as the hub would judge it,
 // and what is ticked must be marked once.
+#![tactic(auto)]
+
 ghost use Rattle.std.specs.Prelude.{◌≡◌, not, ◌⊎◌, ◌+◌, ◌-◌, ◌/◌, ◌≤◌, ◌<◌, eqb, length};
 ghost use Rattle.layout.specs.Container.{bit};
 ghost use Rattle.asks.specs.Asks.{Sound, mark_of};

@@ -7,7 +7,7 @@ use native.Mathlib.Omega.{arith}
 use lib.Dec.{eqb}
 use lib.ListN.{length}
 use Rattle.octets.specs.Octet.{AllOctets, octet}
-use Rattle.octets.specs.Choice.{if◌then◌else◌}
+use Rattle.octets.specs.Choice.{when◌then◌else◌}
 use Rattle.octets.specs.Answer.{Answer, accepted, refused}
 use Rattle.octets.proofs.Answer.{refused-same}
 use Rattle.octets.proofs.Places.{first_so}
@@ -35,7 +35,7 @@ use Rattle.circuits.proofs.Numbers.{act-from-one, desk-from-one}
 kept-plain : (states totals buffer : List ℕ) (named : Answer ℕ → Answer Deed) (r : After) (n at : ℕ) → (r.answer ≡ refused n at → Plain n at) → (keeping states totals buffer named r).answer ≡ refused n at → Plain n at
 kept-plain states totals buffer named r n at h e = go (eqb (length totals) 64) e
   where
-    go : (t : Bool) → (if t then board_after r.answer r.states (totals_after r.states (named r.answer) totals) r.buffer else board_after (refused 16 0) states totals buffer).answer ≡ refused n at → Plain n at
+    go : (t : Bool) → (when t then board_after r.answer r.states (totals_after r.states (named r.answer) totals) r.buffer else board_after (refused 16 0) states totals buffer).answer ≡ refused n at → Plain n at
     go true q = h q
     go false q = let s = refused-same q in (omega (arith, s.0), omega (arith, s.1))
 

@@ -2,6 +2,8 @@
 // `llachurep` and its like they are one library for C and Rust.
 // They are a crate of their own so that its object has one reader, which the
 // compiler puts where it is called.
+#![tactic(auto)]
+
 ghost use Rattle.std.specs.Prelude.{◌≡◌, not, eqb};
 ghost use Rattle.rights.specs.Tables.{tables};
 ghost use Rattle.board.specs.Board.{board_of, desk_board_of};

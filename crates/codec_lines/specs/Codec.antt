@@ -1,7 +1,7 @@
 -- The lines of the codec's requests: shape, read, write, compact, find.
 use Rattle.std.specs.Prelude.{ℕ, List, eqb}
 use Rattle.octets.specs.Octet.{octets}
-use Rattle.octets.specs.Choice.{if◌then◌else◌}
+use Rattle.octets.specs.Choice.{when◌then◌else◌}
 use Rattle.octets.specs.Answer.{Answer, accepted, refused}
 use Rattle.isup.specs.Table.{shape_of}
 use Rattle.isup.specs.Read.{read_of}
@@ -16,17 +16,17 @@ use Rattle.read_lines.specs.Read.{shape_line, read_line}
 -- message 41 or defaults 41; or the refusal with its octet
 unfoldable pub found_line : List ℕ → List ℕ → Answer Spot → List ℕ
 found_line m defaults (accepted s) =
-    if eqb s.holder 100 then shown "defaults " (octets defaults s.start s.len)
+    when eqb s.holder 100 then shown "defaults " (octets defaults s.start s.len)
     else shown "message " (octets m s.start s.len)
 found_line m defaults (refused n at) = fault_line n at
 
 -- the line of a row of the family, by what its fields say; find is its last
 unfoldable pub codec_line_lem : ℕ → List FieldSays → List ℕ
 codec_line_lem which gs =
-    if eqb which SHAPE then shape_line (shape_of (octet_at_lem gs 0))
-    else if eqb which READ then read_line (octets_at gs 0) (read_of (octets_at gs 0))
-    else if eqb which WRITE
+    when eqb which SHAPE then shape_line (shape_of (octet_at_lem gs 0))
+    else when eqb which READ then read_line (octets_at gs 0) (read_of (octets_at gs 0))
+    else when eqb which WRITE
     then octets_line (write_of (number_at gs 0) (number_at gs 1) (octets_at gs 2) (octets_at gs 3) (octets_at gs 4) (octets_at gs 5) (lent (number_at gs 6)))
-    else if eqb which COMPACT then compact_line (compact_of (octets_at gs 0) (lent (number_at gs 1)))
+    else when eqb which COMPACT then compact_line (compact_of (octets_at gs 0) (lent (number_at gs 1)))
     else found_line (octets_at gs 1) (octets_at gs 2)
     (locate_of (octets_at gs 1) (octets_at gs 2) (number_at gs 0))

@@ -1,4 +1,6 @@
 // What the desk answers to the codec's requests: shape, read, write, compact, find.
+#![tactic(auto)]
+
 ghost use Rattle.std.specs.Prelude.{◌≡◌};
 ghost use Rattle.finding.specs.Find.{locate_of};
 ghost use Rattle.isup.specs.Write.{write_of, compact_of};

@@ -1,4 +1,6 @@
 // The whole numbers that stand for a measured velocity.
+#![tactic(auto)]
+
 ghost use Rattle.std.specs.Prelude.{◌≡◌};
 ghost use Rattle.velocity.specs.Velocity.{measured, bearing_of, speed_of, flat_of, codes_of};
 ghost use Rattle.velocity.specs.Told.{code_told, flat_told, coded_told};

@@ -1,5 +1,7 @@
 // The calls of the hub and of the desk, with the totals of busy circuits. After an accepted call
 // each block that holds a named circuit is counted again.
+#![tactic(auto)]
+
 ghost use Rattle.std.specs.Prelude.{◌≡◌};
 ghost use Rattle.octets.specs.Told.{written_told};
 ghost use Rattle.rights.specs.Tables.{tables};

@@ -1,4 +1,6 @@
 // The velocity that whole numbers stand for.
+#![tactic(auto)]
+
 ghost use Rattle.std.specs.Prelude.{◌≡◌};
 ghost use Rattle.velocity.specs.Velocity.{course_of_lem, known_of};
 ghost use Rattle.velocity.specs.Told.{known_told};

@@ -1,8 +1,9 @@
 // A cursor over the optional parameters of a message: it holds the message and a place in it.
 // Definitions, theorems and types.
+#![tactic(auto)]
 
 // The lent message, and the octet at which the next step looks. Any octet gets an answer.
-#[derive(Drop)]
+#[derive(Clone, Copy)]
 pub struct Cursor<'a> {
     pub message: &'a [u8],
     pub at: usize,
@@ -10,7 +11,7 @@ pub struct Cursor<'a> {
 
 // What the reader says of the message at the start: 0, or the refusal's number; and the octet that
 // a refusal is about, 0 where it is about none.
-#[derive(Drop)]
+#[derive(Clone, Copy)]
 pub struct Refusal {
     pub number: u8,
     pub place: usize,

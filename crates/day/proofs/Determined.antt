@@ -4,7 +4,7 @@ use Prim.Native.Nat.{ℕ}
 use mathlib.Core.Path.{◌≡◌, sym, ◌∙◌, ap}
 use mathlib.Core.Bool.{Bool, false}
 use mathlib.Core.List.{List, []}
-use Rattle.octets.specs.Choice.{if◌then◌else◌}
+use Rattle.octets.specs.Choice.{when◌then◌else◌}
 use Rattle.octets.proofs.Answer.{one_answer}
 use Rattle.book.specs.declared.Await.TheVariants.{Bad}
 use Rattle.book.specs.declared.Place.{Place}
@@ -23,4 +23,4 @@ begin-determined t p q =
 
 -- tables of other lengths are kept, and there is no book
 pub begin-keeps : (t : Day) → day_sized t ≡ false → begun_of t ≡ machine Bad [] t
-begin-keeps t e = ap (λ (b : Bool). if b then start else machine Bad [] t) e
+begin-keeps t e = ap (λ (b : Bool). when b then start else machine Bad [] t) e

@@ -9,7 +9,7 @@ use borrow.Author.Tests.{eqb-true}
 use lib.Dec.{eqb}
 use lib.ListN.{length, take, set, replicate, replicate-append-replicate}
 use lib.Seq.{take-suc-set, take_all}
-use Rattle.octets.specs.Choice.{if◌then◌else◌}
+use Rattle.octets.specs.Choice.{when◌then◌else◌}
 use Rattle.octets.specs.declared.Written.TheVariants.{Refused, Octets}
 use Rattle.rights.specs.Tables.{tables}
 use Rattle.hub.specs.Acts.{after, act_of}
@@ -57,7 +57,7 @@ cleared-all l i n a b e p =
 pub sized-true : (o s a r : ℕ) → sized_by o s a r ≡ true → (o ≡ 4096) × (s ≡ 4096) × (a ≡ 256) × (r ≡ 256)
 sized-true o s a r e = go (eqb o 4096) refl (eqb s 4096) refl (eqb a 256) refl e
   where
-    go : (x : Bool) → eqb o 4096 ≡ x → (y : Bool) → eqb s 4096 ≡ y → (z : Bool) → eqb a 256 ≡ z → (if x then (if y then (if z then eqb r 256 else false) else false) else false) ≡ true → (o ≡ 4096) × (s ≡ 4096) × (a ≡ 256) × (r ≡ 256)
+    go : (x : Bool) → eqb o 4096 ≡ x → (y : Bool) → eqb s 4096 ≡ y → (z : Bool) → eqb a 256 ≡ z → (when x then (when y then (when z then eqb r 256 else false) else false) else false) ≡ true → (o ≡ 4096) × (s ≡ 4096) × (a ≡ 256) × (r ≡ 256)
     go false p y q z f h = absurd (let n : ◌≡◌ {A = ℕ} 0 1 = cc in omega arith)
     go true p false q z f h = absurd (let n : ◌≡◌ {A = ℕ} 0 1 = cc in omega arith)
     go true p true q false f h = absurd (let n : ◌≡◌ {A = ℕ} 0 1 = cc in omega arith)
@@ -65,11 +65,11 @@ sized-true o s a r e = go (eqb o 4096) refl (eqb s 4096) refl (eqb a 256) refl e
 
 -- ---- the beginning
 pub begun-unsized : (t : Day) → day_sized t ≡ false → machine Bad [] t ≡ begun_of t
-begun-unsized t e = ap (λ (b : Bool). if b then start else machine Bad [] t) (sym e)
+begun-unsized t e = ap (λ (b : Bool). when b then start else machine Bad [] t) (sym e)
 
 pub begun_sized : (t : Day) {owners rows accepted refused : List ℕ} → day_sized t ≡ true → owners ≡ replicate (length t.owners) 0 → rows ≡ replicate (length t.rows) 0 → accepted ≡ replicate (length t.accepted) 0 → refused ≡ replicate (length t.refused) 0 → machine SpanCount [] (day owners rows accepted refused) ≡ begun_of t
 unfolding nobody at_first_lem zeros
 begun_sized t e a b c d =
     let n = sized-true (length t.owners) (length t.rows) (length t.accepted) (length t.refused) e in
     (λ i. machine SpanCount [] (day ((a ∙ ap (λ (k : ℕ). replicate k 0) n.0) i) ((b ∙ ap (λ (k : ℕ). replicate k 0) n.1) i) ((c ∙ ap (λ (k : ℕ). replicate k 0) n.2) i) ((d ∙ ap (λ (k : ℕ). replicate k 0) n.3) i)))
-    ∙ ap (λ (b : Bool). if b then start else machine Bad [] t) (sym e)
+    ∙ ap (λ (b : Bool). when b then start else machine Bad [] t) (sym e)

@@ -2,7 +2,7 @@
 -- sender were accepted and refused.
 use Rattle.std.specs.Prelude.{ℕ, ◌+◌, ◌%◌, List, [], length, replicate, set, Bool, true, false, eqb}
 use Rattle.octets.specs.Octet.{octet}
-use Rattle.octets.specs.Choice.{if◌then◌else◌}
+use Rattle.octets.specs.Choice.{when◌then◌else◌}
 use Rattle.book.specs.declared.Await.{Await}
 use Rattle.book.specs.declared.Await.TheVariants.{SpanCount, Bad}
 use Rattle.day.specs.Hub.{Rows, at_first_lem, Heard, heard_of}
@@ -60,8 +60,8 @@ heard_in_lem sender m t = let h =
 -- the tables have the lengths that a replay has
 abbrev pub sized_by : ℕ → ℕ → ℕ → ℕ → Bool
 sized_by owners rows accepted refused =
-    if eqb owners 4096
-    then (if eqb rows 4096 then (if eqb accepted 256 then eqb refused 256 else false)
+    when eqb owners 4096
+    then (when eqb rows 4096 then (when eqb accepted 256 then eqb refused 256 else false)
     else false) else false
 
 -- the same of the tables
@@ -72,4 +72,4 @@ day_sized t =
 -- what `begin` leaves: every table 0, or, where one has another length, no
 -- book and the tables as they were
 abbrev pub begun_of : Day → Machine
-begun_of t = if day_sized t then start else machine Bad [] t
+begun_of t = when day_sized t then start else machine Bad [] t

@@ -9,7 +9,7 @@ use borrow.Author.Tests.{le-ltb, eq-eqb, ne_eqb, ltb-false, eqb-true}
 use lib.Dec.{ltb, eqb}
 use lib.ListN.{length, get_or, drop}
 use lib.Ieee.{Float, binary64, round, neg, of_bits}
-use Rattle.octets.specs.Choice.{if◌then◌else◌}
+use Rattle.octets.specs.Choice.{when◌then◌else◌}
 use Rattle.octets.proofs.Answer.{one_answer}
 use Rattle.octets.proofs.Choice.{chosen}
 use Rattle.words.specs.Digits.{value_of}
@@ -87,7 +87,7 @@ real-means (a ∷ l) x e =
     (chosen (eqb (suc (length l)) 0) e)
   where
     bits : (l : List ℕ) → suc (length l) ≡ 18
-        → (if eqb (get_or (a ∷ l) 1 0) 120 then (if eqb a 48 then pattern_of (hex_from 0 (drop 2 (a ∷ l))) else typed_of (a ∷ l)) else typed_of (a ∷ l)) ≡ Value x → Means (a ∷ l) x
+        → (when eqb (get_or (a ∷ l) 1 0) 120 then (when eqb a 48 then pattern_of (hex_from 0 (drop 2 (a ∷ l))) else typed_of (a ∷ l)) else typed_of (a ∷ l)) ≡ Value x → Means (a ∷ l) x
     bits [] n q = absurd (omega arith)
     bits (b ∷ h) n q =
         ⊎_elim

@@ -2,7 +2,7 @@
 use Rattle.std.specs.Prelude.{false, List, [], ◌∷◌, ℕ, ◌+◌, ◌*◌, ◌≤◌, ◌<◌, ltb, eqb, length, get_or, drop}
 use Rattle.std.specs.Float.{binary64}
 use Rattle.std.specs.Float.Ieee.{round, neg, of_bits}
-use Rattle.octets.specs.Choice.{if◌then◌else◌}
+use Rattle.octets.specs.Choice.{when◌then◌else◌}
 use Rattle.words.specs.Digits.{value_of}
 use Rattle.decimals.specs.declared.Real.{Real}
 use Rattle.decimals.specs.declared.Real.TheVariants.{Is as Value, Not as NoValue}
@@ -15,18 +15,18 @@ use Rattle.decimals.specs.declared.Pattern.TheVariants.{Is as Bits, Not as NoBit
 unfoldable pub part_from_lem : ℕ → ℕ → ℕ → List ℕ → Decimal
 part_from_lem v n d [] = Is v d
 part_from_lem v n d (c ∷ cs) =
-    if ltb 9 (value_of c) then Not
-    else if ltb 14 n then Not
+    when ltb 9 (value_of c) then Not
+    else when ltb 14 n then Not
     else part_from_lem (10 * v + value_of c) (n + 1) (10 * d) cs
 
 -- digits up to a point or the end, after n digits that stand for v: at least
 -- one before a point, and one after it
 unfoldable pub whole_from : ℕ → ℕ → List ℕ → Decimal
-whole_from v n [] = if eqb n 0 then Not else Is v 1
+whole_from v n [] = when eqb n 0 then Not else Is v 1
 whole_from v n (c ∷ cs) =
-    if eqb c 46 then (if eqb n 0 then Not else if eqb (length cs) 0 then Not else part_from_lem v n 1 cs)
-    else if ltb 9 (value_of c) then Not
-    else if ltb 14 n then Not
+    when eqb c 46 then (when eqb n 0 then Not else when eqb (length cs) 0 then Not else part_from_lem v n 1 cs)
+    else when ltb 9 (value_of c) then Not
+    else when ltb 14 n then Not
     else whole_from (10 * v + value_of c) (n + 1) cs
 
 -- at most 15 digits, so an f64 holds the number and the power of ten
@@ -46,7 +46,7 @@ typed_of word = nearest_to (whole_from 0 0 word)
 -- hexadecimal digits, after those that stand for v
 unfoldable pub hex_from : ℕ → List ℕ → Pattern
 hex_from v [] = Bits v
-hex_from v (c ∷ cs) = if ltb 15 (value_of c) then NoBits else hex_from (16 * v + value_of c) cs
+hex_from v (c ∷ cs) = when ltb 15 (value_of c) then NoBits else hex_from (16 * v + value_of c) cs
 
 -- the f64 of those bits
 abbrev pub pattern_of : Pattern → Real
@@ -61,10 +61,10 @@ below_zero NoValue = NoValue
 -- `-` and a decimal; `0x` and 16 hexadecimal digits; or a decimal
 unfoldable pub real_of_lem : List ℕ → Real
 real_of_lem word =
-    if eqb (length word) 0 then NoValue
-    else if eqb (get_or word 0 0) 45 then below_zero (typed_of (drop 1 word))
-    else if eqb (length word) 18
-    then (if eqb (get_or word 1 0) 120
-    then (if eqb (get_or word 0 0) 48 then pattern_of (hex_from 0 (drop 2 word)) else typed_of word)
+    when eqb (length word) 0 then NoValue
+    else when eqb (get_or word 0 0) 45 then below_zero (typed_of (drop 1 word))
+    else when eqb (length word) 18
+    then (when eqb (get_or word 1 0) 120
+    then (when eqb (get_or word 0 0) 48 then pattern_of (hex_from 0 (drop 2 word)) else typed_of word)
     else typed_of word)
     else typed_of word

@@ -2,39 +2,45 @@
 // output. Lines are answered as they come.
 // Where an answer cannot be written the desk ends there, so that no answer stands in another's
 // place; where standard input cannot be read it ends too.
-// Either is said on standard error, and to whoever waits at descriptor 3, since
-// a program has no status of its own.
-ghost use Rattle.io.specs.Counts.{IsPrefixLen};
+// Either is said on standard error, and the status is 1 then.
+#![tactic(auto)]
 
-use libc::{STDERR_FILENO, STDIN_FILENO, STDOUT_FILENO};
+ghost use Rattle.std.specs.Prelude.{◌≡◌, ◌≤◌, length, take};
 
-// The descriptor at which a fault is told: `./desk` makes a status of it.
-const STATUS_FILENO: i32 = 3;
+use std::io::{Read, Stdin, Stdout};
+use std::process::ExitCode;
 
 // What came: an octet; nothing, for the input has ended; nothing, for it could not be read.
-#[derive(Drop)]
+#[derive(Clone, Copy)]
 enum Came {
     Octet(u8),
     Ended,
     Unread,
 }
 
-// Says a fault on standard error, and that there was one at descriptor 3.
-fn tell(fault: &[u8]) {
-    io::write_all(STDERR_FILENO, fault);
-    io::write_all(STATUS_FILENO, b"1");
+// What ends the desk before its input has ended.
+#[derive(Clone, Copy)]
+enum Fault {
+    Unread,
+    Unwritten,
 }
 
-// Writes the first n octets of an answer. Where they cannot be written, that is told, and the desk
-// ends; else it goes on where there is more to read.
-fn write_out(out: &[u8], n: usize, more: bool) -> bool {
+// What is said of a fault.
+fn saying(fault: Fault) -> &'static str {
+    match fault {
+        Fault::Unread => "desk: standard input cannot be read",
+        Fault::Unwritten => "desk: an answer could not be written, and the desk ends there",
+    }
+}
+
+// Writes the first n octets of an answer, all of them before more is read.
+fn write_out(output: Stdout, out: &[u8], n: usize) -> Result<(), Fault> {
     if n <= out.len() {
-        if io::write_all(STDOUT_FILENO, &out[0..n]) {
-            return more;
+        if output.write_all(&out[0..n]).is_ok() {
+            return Ok(());
         }
     }
-    tell(b"desk: an answer could not be written, and the desk ends there\n");
-    false
+    Err(Fault::Unwritten)
 }
 
 // The length of a line without the CR right before its LF.
@@ -63,59 +69,55 @@ fn octet_at(chunk: &[u8], at: &mut usize, end: usize) -> Came {
 
 // The next octet of the input: of what was read and stands in `chunk` from `at` to `end`, or, where
 // all that is taken, of what is read next.
-fn next_octet(chunk: &mut [u8], at: &mut usize, end: &mut usize) -> Came {
+fn next_octet(mut input: Stdin, chunk: &mut [u8], at: &mut usize, end: &mut usize) -> Came {
     if *at < *end {
         return octet_at(chunk, at, *end);
     }
-    let got = libc::read(STDIN_FILENO, chunk);
-    if got < 0 {
-        return Came::Unread;
+    match input.read(chunk) {
+        Err(_) => Came::Unread,
+        Ok(got) => {
+            *at = 0;
+            *end = got;
+            octet_at(chunk, at, got)
+        }
     }
-    *at = 0;
-    *end = io::count(got, chunk);
-    octet_at(chunk, at, *end)
 }
 
 // Puts the octets up to the next LF, or to the input's end, into `line`, and answers how many there
 // are; a CR before the LF is left out.
-// At the input's end, and where it cannot be read, there is no more. Then a line that may be cut
-// off is nothing, and the fault is told.
+// At the input's end there is no more. Where it cannot be read, a line that may be cut off is nothing.
 fn next_line(
+    input: Stdin,
     chunk: &mut [u8],
     at: &mut usize,
     end: &mut usize,
     line: &mut [u8],
     more: &mut bool,
-) -> usize {
+) -> Result<usize, Fault> {
     let mut held: usize = 0;
-    let mut turns: u64 = 18446744073709551615;
-    while 0 < turns {
-        match next_octet(chunk, at, end) {
+    for _ in 0..u64::MAX {
+        match next_octet(input, chunk, at, end) {
             Came::Octet(octet) => {
                 if octet == b'\n' {
-                    return without_cr(line, held);
+                    return Ok(without_cr(line, held));
                 }
                 held = printing::put_octet(octet, line, held);
             }
             Came::Ended => {
                 *more = false;
-                return held;
+                return Ok(held);
             }
-            Came::Unread => {
-                *more = false;
-                tell(b"desk: standard input cannot be read\n");
-                return 0;
-            }
+            Came::Unread => return Err(Fault::Unread),
         }
-        turns -= 1;
     }
     *more = false;
-    0
+    Ok(0)
 }
 
 // How many octets of a line there are to answer: `held`, where the line is as long.
 fn within(line: &[u8], held: usize) -> usize
-    ensures { IsPrefixLen result line.now }
+    ensures in_bounds { result ≤ length line.now }
+    ensures front { result ≡ length (take result line.now) }
 {
     if held <= line.len() {
         return held;
@@ -131,23 +133,22 @@ fn is_over(more: bool, held: usize) -> bool {
     held == 0
 }
 
-// Answers standard input line by line, a last line that has no LF too.
-fn main() {
-    let mut states = io::buffer();
-    let mut owners = io::buffer();
-    let mut helpers = io::buffer();
+// Answers the input line by line, a last line that has no LF too.
+fn answer_all(input: Stdin, output: Stdout) -> Result<(), Fault> {
+    let mut states = [0u8; 4096];
+    let mut owners = [0u8; 4096];
+    let mut helpers = [0u8; 4096];
     let mut totals = [0u8; 64];
-    let mut ticks = io::buffer();
-    let mut chunk = io::large_buffer();
+    let mut ticks = [0u8; 4096];
+    let mut chunk = [0u8; 65536];
     let mut line = [0u8; 98304];
-    let mut scratch = io::large_buffer();
+    let mut scratch = [0u8; 65536];
     let mut out = [0u8; 81920];
     let mut at: usize = 0;
     let mut end: usize = 0;
     let mut more = true;
-    let mut turns: u64 = 18446744073709551615;
-    while 0 < turns {
-        let held = next_line(&mut chunk, &mut at, &mut end, &mut line, &mut more);
+    for _ in 0..u64::MAX {
+        let held = next_line(input, &mut chunk, &mut at, &mut end, &mut line, &mut more)?;
         if is_over(more, held) {
             break;
         }
@@ -162,9 +163,21 @@ fn main() {
             &mut scratch,
             &mut out,
         );
-        if !write_out(&out, n, more) {
+        write_out(output, &out, n)?;
+        if !more {
             break;
         }
-        turns -= 1;
+    }
+    Ok(())
+}
+
+// Answers standard input. A fault is said on standard error, where that can be written.
+fn main(rt: HostRuntime) -> ExitCode {
+    match answer_all(rt.stdin(), rt.stdout()) {
+        Ok(()) => ExitCode::SUCCESS,
+        Err(fault) => {
+            let _ = rt.eprintln(saying(fault));
+            ExitCode::FAILURE
+        }
     }
 }

@@ -1,4 +1,6 @@
 // A block that our own desk sets or takes away, and the message that tells of it.
+#![tactic(auto)]
+
 ghost use Rattle.std.specs.Prelude.{◌≡◌};
 ghost use Rattle.hub.specs.Acts.{after};
 ghost use Rattle.hub.specs.Desk.{desk_of};

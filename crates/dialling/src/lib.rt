@@ -1,1 +1,2 @@
 // A called party number written: definitions and theorems alone.
+#![tactic(auto)]

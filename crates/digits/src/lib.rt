@@ -1,8 +1,9 @@
 // Digits, words and numbers of a line: where a word ends, and what a word of digits stands for.
+#![tactic(auto)]
+
 ghost use Rattle.std.specs.Prelude.{◌≡◌, ◌≤◌};
 ghost use Rattle.words.specs.Digits.{value_of};
 ghost use Rattle.words.specs.Words.{word_end_lem, number_of, octet_of_lem, all_digits_lem};
-ghost use Rattle.words.specs.Into.{entry};
 
 use words::Number;
 

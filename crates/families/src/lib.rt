@@ -2,6 +2,8 @@
 // `llachurep` and its like they are one library for C and Rust.
 // They are a crate of their own so that its object has one reader and one writer of parts, which
 // the compiler puts where they are called.
+#![tactic(auto)]
+
 ghost use Rattle.std.specs.Prelude.{◌≡◌};
 ghost use Rattle.isup.specs.Write.{compact_of};
 ghost use Rattle.bicc.specs.Write.{call_compact_of};

@@ -10,7 +10,7 @@ use lib.Dec.{ltb}
 use lib.ListN.{length, take, drop}
 use lib.Seq.{drop_at}
 use Rattle.octets.specs.Octet.{octets, AllOctets}
-use Rattle.octets.specs.Choice.{if◌then◌else◌}
+use Rattle.octets.specs.Choice.{when◌then◌else◌}
 use Rattle.octets.specs.Answer.{Answer, accepted, refused, ◌then◌}
 use Rattle.octets.specs.Filled.{done, filled, leaving, room_for}
 use Rattle.octets.proofs.Answer.{refused-accepted, refused-same}
@@ -40,7 +40,7 @@ roomy buffer x n ys e h = rw (e, le-ltb _ _ h) refl
 never-twelve : (buffer : List ℕ) (y : ℕ × List ℕ) → (done buffer (room_for buffer y)).answer ≡ refused 12 0 → ⊥
 never-twelve buffer y = go (ltb (length buffer) (length y.1))
   where
-    go : (t : Bool) → (done buffer (if t then refused 13 0 else accepted y)).answer ≡ refused 12 0 → ⊥
+    go : (t : Bool) → (done buffer (when t then refused 13 0 else accepted y)).answer ≡ refused 12 0 → ⊥
     go true e = let q = (refused-same e).0 in omega arith
     go false e = refused-accepted (sym e)
 

@@ -6,7 +6,7 @@ use mathlib.Core.List.{List, [], ◌∷◌, ◌++◌}
 use mathlib.Core.Logic.{◌⊎◌, inl, inr, ⊎_elim}
 use native.Mathlib.Omega.{arith}
 use lib.Dec.{ltb}
-use Rattle.octets.specs.Choice.{if◌then◌else◌}
+use Rattle.octets.specs.Choice.{when◌then◌else◌}
 use Rattle.octets.specs.Among.{among, OneOf}
 use Rattle.octets.proofs.Among.{among_one, one-among}
 use Rattle.octets.proofs.Choice.{chosen}
@@ -17,12 +17,12 @@ use Rattle.family.specs.Table.{look, AtMost}
 -- whether no number stands in the list twice
 abbrev pub no_two : List ℕ → Bool
 no_two [] = true
-no_two (x ∷ xs) = if among x xs then false else no_two xs
+no_two (x ∷ xs) = when among x xs then false else no_two xs
 
 -- whether each is an octet
 abbrev pub all_low : List ℕ → Bool
 all_low [] = true
-all_low (x ∷ xs) = if ltb x 256 then all_low xs else false
+all_low (x ∷ xs) = when ltb x 256 then all_low xs else false
 
 -- all types of some lines
 abbrev pub types_of : List (List ℕ × Shape) → List ℕ
@@ -52,7 +52,7 @@ pub listed-look : (t : ℕ) (ls : List (List ℕ × Shape)) → OneOf t (types_o
 listed-look t [] o = absurd o
 listed-look t (l ∷ ls) o = go (among t l.0) refl (one_split t l.0 (types_of ls) o) (listed-look t ls)
   where
-    go : (b : Bool) → among t l.0 ≡ b → OneOf t l.0 ⊎ OneOf t (types_of ls) → (OneOf t (types_of ls) → (s : Shape) × (look t ls ≡ Has s)) → (s : Shape) × ((if b then Has l.1 else look t ls) ≡ Has s)
+    go : (b : Bool) → among t l.0 ≡ b → OneOf t l.0 ⊎ OneOf t (types_of ls) → (OneOf t (types_of ls) → (s : Shape) × (look t ls ≡ Has s)) → (s : Shape) × ((when b then Has l.1 else look t ls) ≡ Has s)
     go true e o ih = (l.1, refl)
     go false e o ih = ⊎_elim (λ x. absurd (let y = one-among t l.0 x in let z : ◌≡◌ {A = ℕ} 0 1 = cc in omega arith)) ih o
 

@@ -1,7 +1,7 @@
 -- A family of messages with its reader and its writer, said once. Header, longest message and table
 -- are what differs between families.
 use Rattle.std.specs.Prelude.{ℕ, List, ltb}
-use Rattle.octets.specs.Choice.{if◌then◌else◌}
+use Rattle.octets.specs.Choice.{when◌then◌else◌}
 use Rattle.octets.specs.Answer.{Answer, refused, ◌then◌}
 use Rattle.octets.specs.Filled.{Done, done, room_for}
 use Rattle.parts.specs.declared.Parts.{Parts}
@@ -31,7 +31,7 @@ of_shape Unknown most o = refused 3 0
 -- the writer: a type is an octet, so 3 above 255
 abbrev pub family_write_in : Family → Order → Answer (ℕ × List ℕ)
 family_write_in F o =
-    if ltb 255 o.kind then refused 3 0 else of_shape (F.row o.kind) F.most o
+    when ltb 255 o.kind then refused 3 0 else of_shape (F.row o.kind) F.most o
 
 -- all that writing does: how many octets were written, or the refusal, 13
 -- last; and the buffer afterwards

@@ -2,7 +2,7 @@
 -- each step gives, and where the next one is.
 use Rattle.std.specs.Prelude.{ℕ, zero, suc, ◌+◌, ◌≡◌, List, [], ◌∷◌, ltb, length}
 use Rattle.octets.specs.Octet.{octets}
-use Rattle.octets.specs.Choice.{if◌then◌else◌}
+use Rattle.octets.specs.Choice.{when◌then◌else◌}
 use Rattle.octets.specs.Answer.{Answer, accepted, refused}
 use Rattle.runs.specs.declared.Step.{Step}
 use Rattle.runs.specs.declared.Step.TheVariants.{Param as Stands, Close, End, Pass}
@@ -44,7 +44,7 @@ steps_from (suc n) m i = offer_at_lem m i ∷ steps_from n m (place_after_lem m 
 -- where the reader refuses it
 abbrev pub start_by : List ℕ → Answer Parts → ℕ
 start_by m (accepted p) =
-    if ltb p.optional.from p.optional.to then p.optional.from else length m
+    when ltb p.optional.from p.optional.to then p.optional.from else length m
 start_by m (refused n at) = length m
 
 -- where stepping through a message of a family starts

@@ -1,6 +1,6 @@
 -- A table of types: each line has the types of one shape row, as the standards list them.
 use Rattle.std.specs.Prelude.{ℕ, ◌≤◌, Bool, List, [], ◌∷◌}
-use Rattle.octets.specs.Choice.{if◌then◌else◌}
+use Rattle.octets.specs.Choice.{when◌then◌else◌}
 use Rattle.octets.specs.Among.{among}
 use Rattle.layout.specs.declared.Shape.{Shape}
 use Rattle.layout.specs.declared.Row.{Row}
@@ -13,7 +13,7 @@ line ts f v o = (ts, record { fixed = f; vars = v; opt = o })
 -- the line that has the type
 abbrev pub look : ℕ → List (List ℕ × Shape) → Row
 look t [] = Unknown
-look t (l ∷ ls) = if among t l.0 then Has l.1 else look t ls
+look t (l ∷ ls) = when among t l.0 then Has l.1 else look t ls
 
 -- no line has more than k variable parts
 abbrev pub AtMost : ℕ → List (List ℕ × Shape) → Type 0

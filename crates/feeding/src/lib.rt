@@ -1,4 +1,6 @@
 // A book is read as it comes, in chunks of any size, and replayed.
+#![tactic(auto)]
+
 ghost use Rattle.std.specs.Prelude.{◌≡◌, [], ◌+◌, ◌-◌, ◌<◌, ◌≤◌, length, take};
 ghost use Rattle.octets.specs.Applied.{spread};
 ghost use Rattle.book.specs.Awaits.{want_of};

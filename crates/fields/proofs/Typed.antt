@@ -8,7 +8,7 @@ use borrow.Author.Tests.{le-ltb}
 use lib.Dec.{ltb}
 use lib.ListN.{length, get_or, take, drop, set, drop_of_length-le}
 use lib.Seq.{sets, take-set-le, length-sets, drop-cons}
-use Rattle.octets.specs.Choice.{if◌then◌else◌}
+use Rattle.octets.specs.Choice.{when◌then◌else◌}
 use Rattle.words.specs.declared.Number.TheVariants.{Is, Not}
 use Rattle.words.specs.Into.{Entry, entry}
 use Rattle.fields.specs.Placed.{word_into}
@@ -43,7 +43,7 @@ module _ (word buffer : List ℕ) (at : ℕ) where
   word_keeps = go (ltb 18 (length word)) (ltb (length buffer) at) (ltb (length buffer - at) (length word))
     where
       chose : Bool → Bool → Bool → Entry
-      chose many past full = if many then entry Not buffer else if past then entry Not buffer else if full then entry Not buffer else entry (Is (length word)) (sets buffer at word)
+      chose many past full = when many then entry Not buffer else when past then entry Not buffer else when full then entry Not buffer else entry (Is (length word)) (sets buffer at word)
 
       go : (many past full : Bool) → (take at (chose many past full).left ≡ take at buffer) × (length (chose many past full).left ≡ length buffer)
       go true past full = (refl, refl)

@@ -1,6 +1,6 @@
 -- The kinds of a request's fields, and what a word says as a field of a kind.
 use Rattle.std.specs.Prelude.{ℕ, List, [], ◌∷◌, ltb, length}
-use Rattle.octets.specs.Choice.{if◌then◌else◌}
+use Rattle.octets.specs.Choice.{when◌then◌else◌}
 use Rattle.words.specs.declared.Number.{Number}
 use Rattle.words.specs.declared.Number.TheVariants.{Is, Not}
 use Rattle.words.specs.Words.{number_of, octet_of_lem, are_octets, octets_of}
@@ -38,7 +38,7 @@ pub data Found (A : Type 0) : Type 0 where
 
 -- a number that is not below another
 abbrev pub not_below_lem : ℕ → Number → Number
-not_below_lem least (Is v) = if ltb v least then Not else Is v
+not_below_lem least (Is v) = when ltb v least then Not else Is v
 not_below_lem least Not = Not
 
 -- a number, as what a field says
@@ -52,8 +52,8 @@ meaning (a_number most) before word = number_says (number_of most word)
 meaning (a_last most) before word = number_says (not_below_lem before (number_of most word))
 meaning an_octet before word = number_says (octet_of_lem word)
 meaning (some_octets most) before word =
-    if are_octets most word then found (field_says 0 (octets_of word)) else lost
-meaning a_word before word = if ltb typed_most (length word) then lost else found (field_says 0 word)
+    when are_octets most word then found (field_says 0 (octets_of word)) else lost
+meaning a_word before word = when ltb typed_most (length word) then lost else found (field_says 0 word)
 
 -- one more at the front of those that were found
 abbrev pub leading : {A : Type 0} → A → Found (List A) → Found (List A)

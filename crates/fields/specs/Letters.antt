@@ -1,7 +1,7 @@
 -- The letters by which a form says the kinds of its fields, and the limits of those kinds.
 use Rattle.std.specs.Prelude.{ℕ, eqb, get_or}
 use Prim.Native.String.{String}
-use Rattle.octets.specs.Choice.{if◌then◌else◌}
+use Rattle.octets.specs.Choice.{when◌then◌else◌}
 use Rattle.words.specs.Said.{said}
 use Rattle.fields.specs.Kinds.{Kind, a_number, a_last, an_octet, some_octets, a_word}
 
@@ -46,21 +46,21 @@ letter text = get_or (said text) 0 0
 -- room for a plan; any other (n) any number
 unfoldable pub most_of : ℕ → ℕ
 most_of l =
-    if eqb l (letter "c") then circuit_most
-    else if eqb l (letter "v") then octet_most
-    else if eqb l (letter "b") then block_most
-    else if eqb l (letter "h") then code_most
-    else if eqb l (letter "r") then room_most
-    else if eqb l (letter "p") then plan_most
+    when eqb l (letter "c") then circuit_most
+    else when eqb l (letter "v") then octet_most
+    else when eqb l (letter "b") then block_most
+    else when eqb l (letter "h") then code_most
+    else when eqb l (letter "r") then room_most
+    else when eqb l (letter "p") then plan_most
     else any_most
 
 -- the kind of a field by its letter: o an octet in two hexadecimal digits, s octets, q those of a
 -- plan, w a word as it is typed, l the last circuit of a span; any other a number
 unfoldable pub kind_of : ℕ → Kind
 kind_of l =
-    if eqb l (letter "o") then an_octet
-    else if eqb l (letter "s") then some_octets octets_most
-    else if eqb l (letter "q") then some_octets plan_most
-    else if eqb l (letter "w") then a_word
-    else if eqb l (letter "l") then a_last circuit_most
+    when eqb l (letter "o") then an_octet
+    else when eqb l (letter "s") then some_octets octets_most
+    else when eqb l (letter "q") then some_octets plan_most
+    else when eqb l (letter "w") then a_word
+    else when eqb l (letter "l") then a_last circuit_most
     else a_number (most_of l)

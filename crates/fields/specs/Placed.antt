@@ -2,7 +2,7 @@
 -- scratch; and the field of it.
 use Rattle.std.specs.Prelude.{ℕ, ◌-◌, List, ltb, length}
 use Rattle.std.proofs.lemmas.List.Edits.{sets}
-use Rattle.octets.specs.Choice.{if◌then◌else◌}
+use Rattle.octets.specs.Choice.{when◌then◌else◌}
 use Rattle.words.specs.declared.Number.TheVariants.{Is, Not}
 use Rattle.words.specs.Words.{number_of, octet_of_lem}
 use Rattle.words.specs.Into.{Entry, entry, octets_into_lem}
@@ -21,9 +21,9 @@ no_field = field 0 0 0
 -- on, where it has room for it
 unfoldable pub word_into : List ℕ → List ℕ → ℕ → Entry
 word_into word buffer at =
-    if ltb typed_most (length word) then entry Not buffer
-    else if ltb (length buffer) at then entry Not buffer
-    else if ltb (length buffer - at) (length word) then entry Not buffer
+    when ltb typed_most (length word) then entry Not buffer
+    else when ltb (length buffer) at then entry Not buffer
+    else when ltb (length buffer - at) (length word) then entry Not buffer
     else entry (Is (length word)) (sets buffer at word)
 
 -- the number that a word stands for as a field of a kind, or how many octets, which are put into

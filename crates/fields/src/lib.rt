@@ -1,7 +1,8 @@
 // What a word says as a field of a kind, and where it stands: definitions, theorems and types.
+#![tactic(auto)]
 
 // A field of a line: the number that it stands for, and where its octets stand in the scratch.
-#[derive(Drop)]
+#[derive(Clone, Copy)]
 pub struct Field {
     pub value: u32,
     pub count: u32,

@@ -1,5 +1,7 @@
 // The compact form of a message of any shape row, with any header, put into a
 // lent buffer. Each octet is stored once.
+#![tactic(auto)]
+
 ghost use Rattle.std.specs.Prelude.{◌≡◌, false, ◌∷◌, [], ◌+◌, ◌≤◌, ◌<◌, length};
 ghost use Rattle.std.proofs.lemmas.List.Edits.{sets};
 ghost use Rattle.octets.specs.Filled.{leaving};

@@ -7,7 +7,7 @@ use native.Mathlib.Omega.{arith}
 use borrow.Author.Tests.{lt-ltb, le-ltb, ltb-false}
 use lib.Dec.{ltb}
 use lib.ListN.{length}
-use Rattle.octets.specs.Choice.{if◌then◌else◌}
+use Rattle.octets.specs.Choice.{when◌then◌else◌}
 use Rattle.octets.proofs.Choice.{decided}
 use Rattle.octets.specs.Octet.{octet}
 use Rattle.octets.specs.Answer.{accepted, refused}
@@ -117,5 +117,5 @@ pub name-zero : (m d : List ℕ) (x : Message) (ds : List Param) → WellFormed 
 unfolding locate_of sought_in named_in
 name-zero m d x ds f p =
     let r = x.parts.optional in
-    let none : (if ltb r.from r.to then named_from m r.from 0 else Nowhere) ≡ Nowhere = ⊎_elim (λ t. rw t (zero-nowhere m r.from)) (λ t. rw t refl) (decided (ltb r.from r.to)) in
+    let none : (when ltb r.from r.to then named_from m r.from 0 else Nowhere) ≡ Nowhere = ⊎_elim (λ t. rw t (zero-nowhere m r.from)) (λ t. rw t refl) (decided (ltb r.from r.to)) in
     rw ((read-exactly m x).1 f, (is-run-exactly d).1 (ds, p), none, zero-nowhere d 0) refl

@@ -2,7 +2,7 @@
 -- customer's defaults, an optional run without its closing 0.
 -- Order: the reader's numbers, 11 for the defaults, 15.
 use Rattle.std.specs.Prelude.{ℕ, List, ltb, eqb}
-use Rattle.octets.specs.Choice.{if◌then◌else◌}
+use Rattle.octets.specs.Choice.{when◌then◌else◌}
 use Rattle.octets.specs.Answer.{Answer, accepted, refused, ◌then◌}
 use Rattle.parts.specs.declared.Span.{Span}
 use Rattle.runs.specs.declared.Found.{Found}
@@ -24,7 +24,7 @@ spot h a n = record { holder = h; start = a; len = n }
 
 -- the first parameter of that name in a message's optional run; a run with no octets has none
 unfoldable pub named_in : List ℕ → Span → ℕ → Found
-named_in m run name = if ltb run.from run.to then named_from m run.from name else Nowhere
+named_in m run name = when ltb run.from run.to then named_from m run.from name else Nowhere
 
 -- found in the defaults; 15 where they have none either
 abbrev pub in_defaults : Found → Answer Spot
@@ -45,7 +45,7 @@ first_of m run defaults name =
 -- octet, so above 255 there is no such parameter
 unfoldable pub sought_in : List ℕ → Span → List ℕ → ℕ → Answer Spot
 sought_in m run defaults name =
-    if is_run_lem defaults then (if ltb 255 name then refused 15 0 else first_of m run defaults name)
+    when is_run_lem defaults then (when ltb 255 name then refused 15 0 else first_of m run defaults name)
     else refused 11 0
 
 -- where the first parameter of that name has its contents, or the refusal:
@@ -72,5 +72,5 @@ code_of (refused n at) = record { number = n; place = at }
 
 -- whichever held it
 abbrev pub held_by_lem : {A : Type 0} → Answer Spot → A → A → A
-held_by_lem (accepted s) message defaults = if eqb s.holder 100 then defaults else message
+held_by_lem (accepted s) message defaults = when eqb s.holder 100 then defaults else message
 held_by_lem (refused n at) message defaults = message

@@ -9,7 +9,7 @@ use borrow.Author.Tests.{lt-ltb, le-ltb, eq-eqb, ne_eqb, eqb-true, eqb-false, lt
 use lib.Dec.{ltb, eqb}
 use lib.ListN.{length, get_or, drop, length-drop}
 use lib.Seq.{drop-cons}
-use Rattle.octets.specs.Choice.{if◌then◌else◌}
+use Rattle.octets.specs.Choice.{when◌then◌else◌}
 use Rattle.octets.proofs.Choice.{chosen, decided}
 use Rattle.words.specs.Words.{same}
 use Rattle.fields.specs.Kinds.{Found, found, lost}
@@ -17,13 +17,13 @@ use Rattle.forms.specs.Table.{Form}
 use Rattle.forms.specs.Inside.{letter_of, letters_all, digits_of, key_of, letters_packed, letters_next, row_in}
 
 -- a letter is at most 27, and says its octet
-letter-back : (c : ℕ) → (letter_of c ≡ 0 → ⊥) → (letter_of c ≤ 27) × (c ≡ (if eqb (letter_of c) 27 then 45 else letter_of c + 96))
+letter-back : (c : ℕ) → (letter_of c ≡ 0 → ⊥) → (letter_of c ≤ 27) × (c ≡ (when eqb (letter_of c) 27 then 45 else letter_of c + 96))
 unfolding letter_of
 letter-back c n = go (ltb 122 c) (ltb 96 c) (eqb c 45) refl refl refl n
   where
-    go : (s t u : Bool) → ltb 122 c ≡ s → ltb 96 c ≡ t → eqb c 45 ≡ u → ((if s then 0 else if t then c - 96 else if u then 27 else 0) ≡ 0 → ⊥)
-        → ((if s then 0 else if t then c - 96 else if u then 27 else 0) ≤ 27)
-        × (c ≡ (if eqb (if s then 0 else if t then c - 96 else if u then 27 else 0) 27 then 45 else (if s then 0 else if t then c - 96 else if u then 27 else 0) + 96))
+    go : (s t u : Bool) → ltb 122 c ≡ s → ltb 96 c ≡ t → eqb c 45 ≡ u → ((when s then 0 else when t then c - 96 else when u then 27 else 0) ≡ 0 → ⊥)
+        → ((when s then 0 else when t then c - 96 else when u then 27 else 0) ≤ 27)
+        × (c ≡ (when eqb (when s then 0 else when t then c - 96 else when u then 27 else 0) 27 then 45 else (when s then 0 else when t then c - 96 else when u then 27 else 0) + 96))
     go true t u p q r m = absurd (m refl)
     go false true u p q r m = let a = ltb-false 122 c p in let b = ltb-true 96 c q in (omega arith, rw (ne_eqb (c - 96) 27 (λ z. omega arith)) (omega arith))
     go false false true p q r m = (omega arith, eqb-true c 45 r)
@@ -46,7 +46,7 @@ digits_same (a ∷ xs) (b ∷ bs) p q e =
     let v = letter-back b y.0 in
     let l : letter_of a ≡ letter_of b = omega (arith, u.0, v.0, e) in
     let d : digits_of xs ≡ digits_of bs = omega (arith, u.0, v.0, e) in
-    let s : a ≡ b = u.1 ∙ ap (λ (z : ℕ). if eqb z 27 then 45 else z + 96) l ∙ sym v.1 in
+    let s : a ≡ b = u.1 ∙ ap (λ (z : ℕ). when eqb z 27 then 45 else z + 96) l ∙ sym v.1 in
     rw (eq-eqb a b s) (digits_same xs bs x.1 y.1 d)
 
 same_refl : (a : List ℕ) → same a a ≡ true
@@ -66,7 +66,7 @@ key-valid : (w : List ℕ) → (key_of w ≡ 0 → ⊥) → (letters_all w ≡ t
 unfolding key_of
 key-valid w n = go (ltb 13 (length w)) (letters_all w) refl n
   where
-    go : (s t : Bool) → letters_all w ≡ t → ((if s then 0 else if t then digits_of w else 0) ≡ 0 → ⊥) → (t ≡ true) × ((if s then 0 else if t then digits_of w else 0) ≡ digits_of w)
+    go : (s t : Bool) → letters_all w ≡ t → ((when s then 0 else when t then digits_of w else 0) ≡ 0 → ⊥) → (t ≡ true) × ((when s then 0 else when t then digits_of w else 0) ≡ digits_of w)
     go true t e m = absurd (m refl)
     go false true e m = (refl, refl)
     go false false e m = absurd (m refl)
@@ -87,7 +87,7 @@ unfolding row_in
 row_small [] i key h = omega arith
 row_small (f ∷ fs) i key h = go (eqb key (key_of f.word)) (row_small fs (suc i) key (omega arith))
   where
-    go : (t : Bool) → (row_in fs (suc i) key).which ≤ 255 → (if t then record { which = i; letters = letters_packed f.letters; longer = letters_next fs key } else row_in fs (suc i) key).which ≤ 255
+    go : (t : Bool) → (row_in fs (suc i) key).which ≤ 255 → (when t then record { which = i; letters = letters_packed f.letters; longer = letters_next fs key } else row_in fs (suc i) key).which ≤ 255
     go true ih = omega arith
     go false ih = ih
 
@@ -129,7 +129,7 @@ broken-before word zero e = e
 broken-before [] (suc j) e = e
 broken-before (c ∷ cs) (suc j) e = go (eqb (letter_of c) 0) (broken-before cs j e)
   where
-    go : (t : Bool) → letters_all cs ≡ false → (if t then false else letters_all cs) ≡ false
+    go : (t : Bool) → letters_all cs ≡ false → (when t then false else letters_all cs) ≡ false
     go true u = refl
     go false u = u
 
@@ -181,7 +181,7 @@ missed seen [] i key known n m = (m, refl)
 missed seen (f ∷ fs) i key known n m = go seen (unseen seen (key_of f.word)) refl n m (λ known' un m'. missed (found (key_of f.word)) fs (suc i) key known' un m')
   where
     Goal : Type 0 → Type 0
-    Goal known' = known' × ((if eqb key (key_of f.word) then record { which = i; letters = letters_packed f.letters; longer = letters_next fs key } else row_in fs (suc i) key) ≡ record { which = 255; letters = 0; longer = 0 })
+    Goal known' = known' × ((when eqb key (key_of f.word) then record { which = i; letters = letters_packed f.letters; longer = letters_next fs key } else row_in fs (suc i) key) ≡ record { which = 255; letters = 0; longer = 0 })
 
     Rest : Type 1
     Rest = (known' : Type 0) → (known' → key ≡ key_of f.word → ⊥) → Misses (found (key_of f.word)) fs key known' → known' × (row_in fs (suc i) key ≡ record { which = 255; letters = 0; longer = 0 })

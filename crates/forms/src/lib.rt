@@ -1,5 +1,7 @@
 // Which form a line has by its first word: a row of the table of forms, with
 // the letters of its fields' kinds.
+#![tactic(auto)]
+
 ghost use Rattle.std.specs.Prelude.{◌≡◌, ◌≤◌};
 ghost use Rattle.forms.specs.Table.{forms};
 ghost use Rattle.forms.specs.Inside.{letter_of, key_of, row_in};
@@ -7,7 +9,7 @@ ghost use Rattle.forms.specs.Inside.{letter_of, key_of, row_in};
 // A row of the table: its number, and a letter for the kind of each field, the
 // first letter in the lowest octet; and the letters of the word's other form, which
 // is the next row, 0 where it has none.
-#[derive(Drop)]
+#[derive(Clone, Copy)]
 pub struct Row {
     pub which: usize,
     pub letters: u64,

@@ -1,5 +1,7 @@
 // The answer's line to a request past BICC's: one of SCCP's, one that lists a message's parameters,
 // or one about the totals.
+#![tactic(auto)]
+
 ghost use Rattle.std.specs.Prelude.{◌≡◌};
 ghost use Rattle.printing.specs.Sheet.{sheet, pour};
 ghost use Rattle.requests.specs.Along.{said_in};

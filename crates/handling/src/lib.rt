@@ -1,5 +1,7 @@
 // A message from a sender, handled: the rows of the circuits that it marks
 // change, and the answer is written.
+#![tactic(auto)]
+
 ghost use Rattle.std.specs.Prelude.{◌≡◌, ◌⊎◌, ◌+◌, ◌/◌, ◌≤◌, ◌<◌, length};
 ghost use Rattle.asks.specs.Asks.{Sound, mark_of};
 ghost use Rattle.rights.specs.Tables.{tables};

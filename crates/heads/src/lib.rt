@@ -1,4 +1,6 @@
 // The type octet of a message, and its packed shape row unpacked.
+#![tactic(auto)]
+
 ghost use Rattle.std.specs.Prelude.{◌≡◌};
 ghost use Rattle.layout.specs.Container.{kind_at};
 ghost use Rattle.layout.specs.Packed.{unpacked_of};

@@ -1,4 +1,6 @@
 // A message of a recorded day, heard by the hub and counted.
+#![tactic(auto)]
+
 ghost use Rattle.std.specs.Prelude.{◌≡◌, ◌+◌, ◌%◌, ◌<◌};
 ghost use Rattle.day.specs.Hub.{heard_as, heard_of};
 ghost use Rattle.day.specs.Day.{day, one_more_lem, heard_in_lem};

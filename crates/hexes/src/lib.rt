@@ -1,4 +1,6 @@
 // The octets that a word of hexadecimal digits stands for, put into a lent buffer.
+#![tactic(auto)]
+
 ghost use Rattle.std.specs.Prelude.{◌≡◌, ◌+◌, ◌*◌, ◌/◌, ◌≤◌, ◌<◌, length};
 ghost use Rattle.words.specs.Into.{entry, pairs_into, octets_into_lem};
 

@@ -11,7 +11,7 @@ use borrow.Author.Tests.{ltb-true, ltb-false}
 use lib.Dec.{ltb}
 use lib.ListN.{length, length-append, length-drop}
 use Rattle.octets.specs.Octet.{octet}
-use Rattle.octets.specs.Choice.{if◌then◌else◌}
+use Rattle.octets.specs.Choice.{when◌then◌else◌}
 use Rattle.octets.specs.Answer.{Answer, accepted, refused}
 use Rattle.octets.specs.Filled.{filled}
 use Rattle.octets.proofs.Answer.{refused-accepted, accepted-same}
@@ -171,7 +171,7 @@ module _ (T : Tables) (sender : ℕ) (m buffer : List ℕ) where
   pub names-mine : (a : Ask) → Allowed T sender m (length buffer) a → may_help a.act a.block ≡ false → (c : ℕ) → Named a c → Mine T.owners sender c
   unfolding is_unhelpable
   names-mine a g h c n =
-      let u : is_found (first_unowned_lem T.owners sender a.circuit (a.range + 1)) ≡ false = ap (λ (b : Bool). if b then false else is_found (first_unowned_lem T.owners sender a.circuit (a.range + 1))) (sym h) ∙ g.helps in
+      let u : is_found (first_unowned_lem T.owners sender a.circuit (a.range + 1)) ≡ false = ap (λ (b : Bool). when b then false else is_found (first_unowned_lem T.owners sender a.circuit (a.range + 1))) (sym h) ∙ g.helps in
       mine-is T.owners sender c (found_none (is_mine T.owners sender) a.circuit (a.range + 1) u c n.0 (omega (arith, n.1)))
 
   -- a row on which the sender has no right stays

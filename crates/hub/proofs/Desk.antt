@@ -9,7 +9,7 @@ use borrow.Author.Tests.{eq-eqb, ne_eqb, lt-ltb, le-ltb, ltb-true, ltb-false, eq
 use lib.Dec.{ltb, eqb}
 use lib.ListN.{length, take, set as put, length-drop}
 use Rattle.octets.specs.Octet.{octet}
-use Rattle.octets.specs.Choice.{if◌then◌else◌}
+use Rattle.octets.specs.Choice.{when◌then◌else◌}
 use Rattle.octets.specs.Answer.{Answer, accepted, refused, ◌then◌}
 use Rattle.octets.specs.Faults.{First, None, Judges, fault}
 use Rattle.octets.specs.Filled.{Done, done, leaving, filled}
@@ -69,21 +69,21 @@ pub desk-granted : (states : List ℕ) (circuit room c : ℕ) → desk_grant sta
 unfolding desk_grant
 desk-granted states circuit room c e = go (eqb (length states) 4096) refl e
   where
-    last : (is_legal (octet states circuit) ≡ true) → length states ≡ 4096 → circuit ≤ 4095 → (t : Bool) → ltb room 3 ≡ t → (if t then refused 13 0 else accepted circuit) ≡ accepted c → Granted states circuit room c
+    last : (is_legal (octet states circuit) ≡ true) → length states ≡ 4096 → circuit ≤ 4095 → (t : Bool) → ltb room 3 ≡ t → (when t then refused 13 0 else accepted circuit) ≡ accepted c → Granted states circuit room c
     last l s k true t h = absurd (refused-accepted h)
     last l s k false t h = record { same = sym (accepted-same h); sized = s; known = k; legal = legal-is _ l; room-enough = ltb-false room 3 t }
 
-    row : length states ≡ 4096 → circuit ≤ 4095 → (l : Bool) → is_legal (octet states circuit) ≡ l → (if l then (if ltb room 3 then refused 13 0 else accepted circuit) else refused 20 0) ≡ accepted c → Granted states circuit room c
+    row : length states ≡ 4096 → circuit ≤ 4095 → (l : Bool) → is_legal (octet states circuit) ≡ l → (when l then (when ltb room 3 then refused 13 0 else accepted circuit) else refused 20 0) ≡ accepted c → Granted states circuit room c
     row s k true l h = last l s k (ltb room 3) refl h
     row s k false l h = absurd (refused-accepted h)
 
     named : length states ≡ 4096 → (u : Bool) → ltb 4095 circuit ≡ u
-        → (if u then refused 9 0 else if is_legal (octet states circuit) then (if ltb room 3 then refused 13 0 else accepted circuit) else refused 20 0) ≡ accepted c → Granted states circuit room c
+        → (when u then refused 9 0 else when is_legal (octet states circuit) then (when ltb room 3 then refused 13 0 else accepted circuit) else refused 20 0) ≡ accepted c → Granted states circuit room c
     named s true u h = absurd (refused-accepted h)
     named s false u h = row s (ltb-false 4095 circuit u) (is_legal (octet states circuit)) refl h
 
     go : (t : Bool) → eqb (length states) 4096 ≡ t
-        → (if t then (if ltb 4095 circuit then refused 9 0 else if is_legal (octet states circuit) then (if ltb room 3 then refused 13 0 else accepted circuit) else refused 20 0) else refused 16 0) ≡ accepted c
+        → (when t then (when ltb 4095 circuit then refused 9 0 else when is_legal (octet states circuit) then (when ltb room 3 then refused 13 0 else accepted circuit) else refused 20 0) else refused 16 0) ≡ accepted c
         → Granted states circuit room c
     go true t h = named (eqb-true _ _ t) (ltb 4095 circuit) refl h
     go false t h = absurd (refused-accepted h)
@@ -212,7 +212,7 @@ module _ (states : List ℕ) (circuit : ℕ) (set : Bool) (buffer : List ℕ) wh
   pub desk-rule : (n : ℕ) → (desk_of states circuit set buffer).answer ≡ accepted n
       → Changes states (desk_of states circuit set buffer).states circuit 0 every (LocallyBlocked set)
       × Answers buffer (desk_of states circuit set buffer).buffer n (notice_of circuit set)
-      × ReadsAs (take n (desk_of states circuit set buffer).buffer) circuit (saying (if set then BLO else UBL) [] [] [])
+      × ReadsAs (take n (desk_of states circuit set buffer).buffer) circuit (saying (when set then BLO else UBL) [] [] [])
   desk-rule n e =
       let d = desk-called n e in
       let w = d.granted in
@@ -224,7 +224,7 @@ module _ (states : List ℕ) (circuit : ℕ) (set : Bool) (buffer : List ℕ) wh
           others = λ c h. desk-untouched c (λ q k. ⊎_elim (λ l. omega (arith, l, q)) (λ l. omega (arith, l, q)) h);
         },
         (d.count, d.front),
-        subst (λ (l : List ℕ). ReadsAs l circuit (saying (if set then BLO else UBL) [] [] [])) (sym (ap (take n) d.front ∙ take-filled (notice_of circuit set) buffer n d.count)) (notice-reads circuit set w.known),
+        subst (λ (l : List ℕ). ReadsAs l circuit (saying (when set then BLO else UBL) [] [] [])) (sym (ap (take n) d.front ∙ take-filled (notice_of circuit set) buffer n d.count)) (notice-reads circuit set w.known),
       )
 
   -- a row that is legal is legal after any desk call
@@ -252,10 +252,10 @@ module _ (s t : List ℕ) (circuit : ℕ) (set : Bool) (buffer : List ℕ) (long
   grant-alike = go (ltb 4095 circuit) refl
     where
       go : (u : Bool) → ltb 4095 circuit ≡ u → desk_grant s circuit (length buffer) ≡ desk_grant t circuit (length buffer)
-      go true u = rw u (λ i. if eqb (long i) 4096 then refused 9 0 else refused 16 0)
+      go true u = rw u (λ i. when eqb (long i) 4096 then refused 9 0 else refused 16 0)
       go false u =
           let r = agree (ltb-false 4095 circuit u) in
-          rw u (λ i. if eqb (long i) 4096 then (if is_legal (r i) then (if ltb (length buffer) 3 then refused 13 0 else accepted circuit) else refused 20 0) else refused 16 0)
+          rw u (λ i. when eqb (long i) 4096 then (when is_legal (r i) then (when ltb (length buffer) 3 then refused 13 0 else accepted circuit) else refused 20 0) else refused 16 0)
 
   -- the answer and the buffer
   told-alike : (g : Answer ℕ) → ((desk_carried s set buffer g).answer ≡ (desk_carried t set buffer g).answer) × ((desk_carried s set buffer g).buffer ≡ (desk_carried t set buffer g).buffer)
@@ -314,7 +314,7 @@ module _ (states : List ℕ) (circuit : ℕ) (set : Bool) (buffer : List ℕ) wh
 
       module _ (l : is_legal (octet states circuit) ≡ true) where
         -- only 13 is left
-        roomed : desk_carried states set buffer (if ltb (length buffer) 3 then refused 13 0 else accepted circuit) ≡ desk_of states circuit set buffer
+        roomed : desk_carried states set buffer (when ltb (length buffer) 3 then refused 13 0 else accepted circuit) ≡ desk_of states circuit set buffer
         unfolding desk_of desk_grant
         roomed = rw (eq-eqb _ _ s, le-ltb _ _ k, l)
 
@@ -322,7 +322,7 @@ module _ (states : List ℕ) (circuit : ℕ) (set : Bool) (buffer : List ℕ) wh
           pub desk-short : (n at : ℕ) → r ≡ Withheld n at → after (refused n at) states left ≡ desk_of states circuit set buffer
           desk-short n at q = go (ltb (length buffer) 3) (ap (λ (y : Written). leaving (written_told y) left) (sym q) ∙ e) ∙ roomed
             where
-              go : (t : Bool) → leaving (refused n at) left ≡ done buffer (if t then refused 13 0 else accepted (length (notice_of circuit set), notice_of circuit set)) → after (refused n at) states left ≡ desk_carried states set buffer (if t then refused 13 0 else accepted circuit)
+              go : (t : Bool) → leaving (refused n at) left ≡ done buffer (when t then refused 13 0 else accepted (length (notice_of circuit set), notice_of circuit set)) → after (refused n at) states left ≡ desk_carried states set buffer (when t then refused 13 0 else accepted circuit)
               go true h = ap (λ (d : Done ℕ). after d.answer states d.left) h
               go false h = absurd (refused-accepted (ap (λ (d : Done ℕ). d.answer) h))
 
@@ -332,7 +332,7 @@ module _ (states : List ℕ) (circuit : ℕ) (set : Bool) (buffer : List ℕ) wh
               changed : put states circuit v ≡ rows_blocked set circuit states
               changed = sym (applied-more (λ c row. local_row set row) circuit 1 (circuit + 1) 0 v states (omega arith) (omega arith) w ∙ applied-none (λ c row. local_row set row) (circuit + 1) 0 (put states circuit v) refl)
 
-              go : (t : Bool) → leaving (accepted n) left ≡ done buffer (if t then refused 13 0 else accepted (length (notice_of circuit set), notice_of circuit set)) → after (accepted n) (put states circuit v) left ≡ desk_carried states set buffer (if t then refused 13 0 else accepted circuit)
+              go : (t : Bool) → leaving (accepted n) left ≡ done buffer (when t then refused 13 0 else accepted (length (notice_of circuit set), notice_of circuit set)) → after (accepted n) (put states circuit v) left ≡ desk_carried states set buffer (when t then refused 13 0 else accepted circuit)
               go true h = absurd (refused-accepted (sym (ap (λ (d : Done ℕ). d.answer) h)))
               go false h = λ i. after (h i).answer (changed i) (h i).left
 

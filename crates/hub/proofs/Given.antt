@@ -7,7 +7,7 @@ use borrow.Author.Tests.{eq-eqb, eqb-true, ltb-false}
 use lib.Dec.{ltb, eqb}
 use lib.ListN.{length}
 use Rattle.octets.specs.Octet.{AllOctets}
-use Rattle.octets.specs.Choice.{if◌then◌else◌}
+use Rattle.octets.specs.Choice.{when◌then◌else◌}
 use Rattle.octets.specs.Answer.{Answer, accepted, refused, ◌then◌}
 use Rattle.octets.specs.Filled.{Done, done, leaving}
 use Rattle.octets.specs.Told.{written_told}
@@ -54,12 +54,12 @@ pub grant-judged : (T : Tables) (sender : ℕ) (m : List ℕ) (room : ℕ) → g
 unfolding grant_of judged_of allowed_of
 grant-judged T sender m room = go (sized T) (ask_of m)
   where
-    go : (t : Bool) (x : Answer Ask) → (if t then (x then (λ a. permitted_of T sender a then roomed T m room)) else refused 16 0) ≡ ((if t then (x then permitted_of T sender) else refused 16 0) then roomed T m room)
+    go : (t : Bool) (x : Answer Ask) → (when t then (x then (λ a. permitted_of T sender a then roomed T m room)) else refused 16 0) ≡ ((when t then (x then permitted_of T sender) else refused 16 0) then roomed T m room)
     go true (accepted a) = refl
     go true (refused n at) = refl
     go false x = refl
 
-both : (s t : Bool) → (if s then t else false) ≡ true → (s ≡ true) × (t ≡ true)
+both : (s t : Bool) → (when s then t else false) ≡ true → (s ≡ true) × (t ≡ true)
 both true t e = (refl, e)
 both false t e = absurd (true-false {t = false} e refl)
 
@@ -75,10 +75,10 @@ pub fair : (T : Tables) (sender : ℕ) (m : List ℕ) (a : Ask) → judged_of T 
 unfolding judged_of
 fair T sender m a e = go (sized T) refl e
   where
-    go : (t : Bool) → sized T ≡ t → (if t then (ask_of m then permitted_of T sender) else refused 16 0) ≡ accepted a → Fair T sender m a
+    go : (t : Bool) → sized T ≡ t → (when t then (ask_of m then permitted_of T sender) else refused 16 0) ≡ accepted a → Fair T sender m a
     go false s h = absurd (refused-accepted h)
     go true s h =
-        let k = both (eqb (length T.states) 4096) (if eqb (length T.owners) 4096 then eqb (length T.helpers) 4096 else false) s in
+        let k = both (eqb (length T.states) 4096) (when eqb (length T.owners) 4096 then eqb (length T.helpers) 4096 else false) s in
         let l = both (eqb (length T.owners) 4096) (eqb (length T.helpers) 4096) k.1 in
         let g = then-accepted (ask_of m) (permitted_of T sender) h in
         let p = permitted T sender g.0 a g.2 in
@@ -142,7 +142,7 @@ module _ (T : Tables) (sender : ℕ) (m buffer : List ℕ) (v : Verdict) (w : ve
       pub act-short : (n at : ℕ) → r ≡ Withheld n at → after (refused n at) T.states left ≡ act_of T sender m buffer
       act-short n at q = go (ltb (length buffer) (length (reply_of T.states m a))) (ap (λ (y : Written). leaving (written_told y) left) (sym q) ∙ e) ∙ carried (ap verdict_told f)
         where
-          go : (t : Bool) → leaving (refused n at) left ≡ done buffer (if t then refused 13 0 else accepted (length (reply_of T.states m a), reply_of T.states m a)) → after (refused n at) T.states left ≡ carried_out T m buffer (if t then refused 13 0 else accepted a)
+          go : (t : Bool) → leaving (refused n at) left ≡ done buffer (when t then refused 13 0 else accepted (length (reply_of T.states m a), reply_of T.states m a)) → after (refused n at) T.states left ≡ carried_out T m buffer (when t then refused 13 0 else accepted a)
           go true h = ap (λ (d : Done ℕ). after d.answer T.states d.left) h
           go false h = absurd (refused-accepted (ap (λ (d : Done ℕ). d.answer) h))
 
@@ -150,7 +150,7 @@ module _ (T : Tables) (sender : ℕ) (m buffer : List ℕ) (v : Verdict) (w : ve
       pub act-done : (n : ℕ) (states' : List ℕ) → r ≡ Octets n → states' ≡ rows_after m a T.states → after (accepted n) states' left ≡ act_of T sender m buffer
       act-done n states' q p = go (ltb (length buffer) (length (reply_of T.states m a))) (ap (λ (y : Written). leaving (written_told y) left) (sym q) ∙ e) ∙ carried (ap verdict_told f)
         where
-          go : (t : Bool) → leaving (accepted n) left ≡ done buffer (if t then refused 13 0 else accepted (length (reply_of T.states m a), reply_of T.states m a)) → after (accepted n) states' left ≡ carried_out T m buffer (if t then refused 13 0 else accepted a)
+          go : (t : Bool) → leaving (accepted n) left ≡ done buffer (when t then refused 13 0 else accepted (length (reply_of T.states m a), reply_of T.states m a)) → after (accepted n) states' left ≡ carried_out T m buffer (when t then refused 13 0 else accepted a)
           go true h = absurd (refused-accepted (sym (ap (λ (d : Done ℕ). d.answer) h)))
           go false h = λ i. after (h i).answer (p i) (h i).left
 

@@ -8,7 +8,7 @@ use native.Mathlib.Omega.{arith}
 use lib.Dec.{ltb, eqb}
 use lib.ListN.{length}
 use Rattle.octets.specs.Octet.{octet}
-use Rattle.octets.specs.Choice.{if◌then◌else◌}
+use Rattle.octets.specs.Choice.{when◌then◌else◌}
 use Rattle.octets.specs.Answer.{Answer, accepted, refused}
 use Rattle.octets.specs.Filled.{filled}
 use Rattle.octets.proofs.Answer.{accepted-same, then_same}
@@ -51,7 +51,7 @@ module _ (T U : Tables) (sender : ℕ) (m : List ℕ) where
   -- whether there is room depends on the row of the first named circuit alone
   roomed-same : (room : ℕ) (a : Ask) → octet T.states a.circuit ≡ octet U.states a.circuit → roomed T m room a ≡ roomed U m room a
   roomed-same room a e =
-      ap (λ (n : ℕ). if ltb room n then refused 13 0 else accepted a)
+      ap (λ (n : ℕ). when ltb room n then refused 13 0 else accepted a)
       (length-reply T.states m a ∙ ap (reply_length a.act a.range) e ∙ sym (length-reply U.states m a))
 
   -- the checks look at the named rows alone
@@ -59,10 +59,10 @@ module _ (T U : Tables) (sender : ℕ) (m : List ℕ) where
   unfolding allowed_of permitted_of is_unhelpable
   allowed_same room a h =
       let o : (j : ℕ) → a.circuit ≤ j → j < a.circuit + (a.range + 1) → is_mine T.owners sender j ≡ is_mine U.owners sender j =
-      λ j p q. ap (λ (k : ℕ). if eqb sender 0 then false else eqb k sender) (h j (p, omega arith)).1 in
+      λ j p q. ap (λ (k : ℕ). when eqb sender 0 then false else eqb k sender) (h j (p, omega arith)).1 in
       let f : first_foreign_lem T.owners T.helpers sender a.circuit (a.range + 1) ≡ first_foreign_lem U.owners U.helpers sender a.circuit (a.range + 1) =
       search-same (has_right T.owners T.helpers sender) (has_right U.owners U.helpers sender) a.circuit (a.range + 1)
-      (λ j p q. (let e = o j p q in let g = ap (λ (k : ℕ). if eqb sender 0 then false else eqb k sender) (h j (p, omega arith)).2 in λ i. if e i then true else g i)) in
+      (λ j p q. (let e = o j p q in let g = ap (λ (k : ℕ). when eqb sender 0 then false else eqb k sender) (h j (p, omega arith)).2 in λ i. when e i then true else g i)) in
       let u : first_unowned_lem T.owners sender a.circuit (a.range + 1) ≡ first_unowned_lem U.owners sender a.circuit (a.range + 1) =
       search-same (is_mine T.owners sender) (is_mine U.owners sender) a.circuit (a.range + 1) o in
       let l : first_illegal_lem T.states a.circuit (a.range + 1) ≡ first_illegal_lem U.states a.circuit (a.range + 1) =
@@ -72,10 +72,10 @@ module _ (T U : Tables) (sender : ℕ) (m : List ℕ) where
       taken-same T.states U.states a.act a.circuit (h a.circuit (omega arith, omega arith)).0 in
       then_same (permitted_of T sender a)
       (λ i.
-      if is_found (f i) then refused 19 0
-      else if (if may_help a.act a.block then false else is_found (u i)) then refused 22 0
-      else if is_found (l i) then refused 20 0
-      else if t i then refused 21 0
+      when is_found (f i) then refused 19 0
+      else when (when may_help a.act a.block then false else is_found (u i)) then refused 22 0
+      else when is_found (l i) then refused 20 0
+      else when t i then refused 21 0
       else accepted a)
       (λ b e. let s : a ≡ b = (permitted T sender a b e).0 in roomed-same room b (subst (λ (y : Ask). octet T.states y.circuit ≡ octet U.states y.circuit) s (h a.circuit (omega arith, omega arith)).0))
 

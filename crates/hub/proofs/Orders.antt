@@ -10,7 +10,7 @@ use lib.Dec.{eqb, ltb}
 use lib.ListN.{length}
 use lib.Seq.{ext_get_or}
 use Rattle.octets.specs.Octet.{octet}
-use Rattle.octets.specs.Choice.{if◌then◌else◌}
+use Rattle.octets.specs.Choice.{when◌then◌else◌}
 use Rattle.octets.specs.Answer.{Answer, accepted, refused, ◌then◌}
 use Rattle.octets.specs.Filled.{filled}
 use Rattle.octets.proofs.Answer.{then_same}
@@ -48,7 +48,7 @@ module _ (owners helpers : List ℕ) where
       (λ w. rw (ne_eqb q 0 w.1, eq-eqb (octet helpers i) q w.0) (either (eqb (octet owners i) q)))
       r)
     where
-      either : (b : Bool) → (if b then true else true) ≡ true
+      either : (b : Bool) → (when b then true else true) ≡ true
       either true = refl
       either false = refl
 
@@ -111,8 +111,8 @@ module _ (owners helpers : List ℕ) (sender : ℕ) (m : List ℕ) (s t : List �
   granted-alike : (room : ℕ) → grant_of (tables s owners helpers) sender m room ≡ grant_of (tables t owners helpers) sender m room
   unfolding grant_of
   granted-alike room =
-      ap (λ n. if (if eqb n 4096 then (if eqb (length owners) 4096 then eqb (length helpers) 4096 else false) else false) then (ask_of m then allowed_of (tables s owners helpers) sender m room) else refused 16 0) long
-      ∙ ap (λ (x : Answer Ask). if sized (tables t owners helpers) then x else refused 16 0) (then_same (ask_of m) refl (λ a e. allowed-alike room a (ask-last m a e)))
+      ap (λ n. when (when eqb n 4096 then (when eqb (length owners) 4096 then eqb (length helpers) 4096 else false) else false) then (ask_of m then allowed_of (tables s owners helpers) sender m room) else refused 16 0) long
+      ∙ ap (λ (x : Answer Ask). when sized (tables t owners helpers) then x else refused 16 0) (then_same (ask_of m) refl (λ a e. allowed-alike room a (ask-last m a e)))
 
   module _ (buffer : List ℕ) where
     rows_alike : (g : Answer Ask) → grant_of (tables s owners helpers) sender m (length buffer) ≡ g → (i : ℕ) → holds_of owners helpers sender i ≡ true → octet (carried_out (tables s owners helpers) m buffer g).states i ≡ octet (carried_out (tables t owners helpers) m buffer g).states i
@@ -287,7 +287,7 @@ module _ (owners helpers : List ℕ) (i : ℕ) (z : octet owners i ≡ 0) (y : o
       go : (b : Bool) → eqb (party_of owners c.asks) 0 ≡ b
           → (length (after s) ≡ length (after t) → octet (after s) i ≡ octet (after t) i → octet (state_after (hub owners helpers) cs (after s)) i ≡ octet (state_after (hub owners helpers) (calls_of (hub owners helpers) 0 cs) (after t)) i)
           → (length (after s) ≡ length t → octet (after s) i ≡ octet t i → octet (state_after (hub owners helpers) cs (after s)) i ≡ octet (state_after (hub owners helpers) (calls_of (hub owners helpers) 0 cs) t) i)
-          → octet (state_after (hub owners helpers) cs (after s)) i ≡ octet (state_after (hub owners helpers) (if b then c ∷ calls_of (hub owners helpers) 0 cs else calls_of (hub owners helpers) 0 cs) t) i
+          → octet (state_after (hub owners helpers) cs (after s)) i ≡ octet (state_after (hub owners helpers) (when b then c ∷ calls_of (hub owners helpers) 0 cs else calls_of (hub owners helpers) 0 cs) t) i
       go true p both one =
           both (done-length owners helpers c.asks c.buffer s ∙ long ∙ sym (done-length owners helpers c.asks c.buffer t)) (one_alike c.asks c.buffer s t long e)
       go false p both one = one (done-length owners helpers c.asks c.buffer s ∙ long) (others-leave c.asks c.buffer s p ∙ e)

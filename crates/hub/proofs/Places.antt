@@ -8,7 +8,7 @@ use mathlib.Core.Logic.{◌⊎◌, inr, ⊎_elim}
 use native.Mathlib.Omega.{arith}
 use lib.Dec.{ltb}
 use lib.ListN.{length}
-use Rattle.octets.specs.Choice.{if◌then◌else◌}
+use Rattle.octets.specs.Choice.{when◌then◌else◌}
 use Rattle.octets.specs.Answer.{refused, ◌then◌}
 use Rattle.octets.proofs.Places.{UpTo, up-to-accepted, up-to-refused, up-to-if, up-to-then, handed-on}
 use Rattle.isup.specs.Read.{read_of}
@@ -46,7 +46,7 @@ module _ (T : Tables) (sender : ℕ) (m buffer : List ℕ) (n at : ℕ) where
     unfolding act_of grant_of
     act-hands-on = go (sized T) ((answered T sender m buffer (grant_of T sender m (length buffer)) n at).0 e)
       where
-        go : (t : Bool) → (if t then (ask_of m then allowed_of T sender m (length buffer)) else refused 16 0) ≡ refused n at → (read_of m ≡ refused n at) ⊎ (at ≡ 0)
+        go : (t : Bool) → (when t then (ask_of m then allowed_of T sender m (length buffer)) else refused 16 0) ≡ refused n at → (read_of m ≡ refused n at) ⊎ (at ≡ 0)
         go true h = ⊎_elim (ask-hands-on m n at) (λ z. inr z) (handed-on (ask_of m) (allowed_of T sender m (length buffer)) (allowed-placeless T sender m (length buffer)) n at h)
         go false h = inr (let z = up-to-refused {A = Ask} 0 16 0 (omega arith) n at h in omega (arith, z))
 

@@ -10,7 +10,7 @@ use borrow.Author.Tests.{eqb-true, eq-eqb}
 use lib.Dec.{ltb, eqb}
 use lib.ListN.{length, replicate, length-replicate, get_or-replicate}
 use Rattle.octets.specs.Octet.{octet}
-use Rattle.octets.specs.Choice.{if◌then◌else◌}
+use Rattle.octets.specs.Choice.{when◌then◌else◌}
 use Rattle.octets.specs.Answer.{Answer, accepted, refused, ◌then◌}
 use Rattle.octets.proofs.Answer.{refused-same, refused-accepted}
 use Rattle.parts.specs.Spans.{span}
@@ -74,7 +74,7 @@ owned-sized sender = ap suc (length-replicate {A = ℕ} 4095 sender)
 abbrev marked_first : Tables → ℕ → List ℕ → List ℕ → Answer Ask → After
 marked_first T sender m buffer (refused n at) = after (refused n 0) T.states buffer
 marked_first T sender m buffer (accepted a) =
-    if ltb (length buffer) (length (reply_of T.states m a)) then after (refused 13 0) (rows_after m a T.states) buffer
+    when ltb (length buffer) (length (reply_of T.states m a)) then after (refused 13 0) (rows_after m a T.states) buffer
     else carried_out T m buffer (accepted a)
 
 block-granted : grant_of (lent 0 1) 1 block 268 ≡ accepted (one_ask Block 0)
@@ -111,10 +111,10 @@ touches-nothing-refuted e =
 -- ---- 20 looked at before 19
 abbrev legal_first : Tables → ℕ → List ℕ → ℕ → Ask → Answer Ask
 legal_first T sender m room a =
-    if is_found (first_illegal_lem T.states a.circuit (a.range + 1)) then refused 20 0
-    else if is_found (first_foreign_lem T.owners T.helpers sender a.circuit (a.range + 1)) then refused 19 0
-    else if is_taken T.states a.act a.circuit then refused 21 0
-    else if ltb room (length (reply_of T.states m a)) then refused 13 0
+    when is_found (first_illegal_lem T.states a.circuit (a.range + 1)) then refused 20 0
+    else when is_found (first_foreign_lem T.owners T.helpers sender a.circuit (a.range + 1)) then refused 19 0
+    else when is_taken T.states a.act a.circuit then refused 21 0
+    else when ltb room (length (reply_of T.states m a)) then refused 13 0
     else accepted a
 
 -- a stranger's row is not legal: the wrong order tells the sender so, and the definition gives 19
@@ -132,9 +132,9 @@ illegal-before-foreign e =
 -- ---- 20 not looked at
 abbrev unlooked : Tables → ℕ → List ℕ → ℕ → Ask → Answer Ask
 unlooked T sender m room a =
-    if is_found (first_foreign_lem T.owners T.helpers sender a.circuit (a.range + 1)) then refused 19 0
-    else if is_taken T.states a.act a.circuit then refused 21 0
-    else if ltb room (length (reply_of T.states m a)) then refused 13 0
+    when is_found (first_foreign_lem T.owners T.helpers sender a.circuit (a.range + 1)) then refused 19 0
+    else when is_taken T.states a.act a.circuit then refused 21 0
+    else when ltb room (length (reply_of T.states m a)) then refused 13 0
     else accepted a
 
 -- CQM for circuit 0
@@ -160,7 +160,7 @@ illegal-untold e =
 -- ---- hubs that look at a stranger's row before they refuse
 -- the hub's calls with another test of what is allowed
 abbrev grant_by : (Tables → ℕ → List ℕ → ℕ → Ask → Answer Ask) → Tables → ℕ → List ℕ → ℕ → Answer Ask
-grant_by allowed T sender m room = if sized T then (ask_of m then allowed T sender m room) else refused 16 0
+grant_by allowed T sender m room = when sized T then (ask_of m then allowed T sender m room) else refused 16 0
 
 abbrev act_by : (Tables → ℕ → List ℕ → ℕ → Ask → Answer Ask) → Tables → ℕ → List ℕ → List ℕ → After
 act_by allowed T sender m buffer = carried_out T m buffer (grant_by allowed T sender m (length buffer))
@@ -219,7 +219,7 @@ sees-a-stranger A =
 -- ---- 21 looked at before 19: the answer depends on the merge
 abbrev taken_first : Tables → ℕ → List ℕ → ℕ → Ask → Answer Ask
 taken_first T sender m room a =
-    if is_taken T.states a.act a.circuit then refused 21 0
+    when is_taken T.states a.act a.circuit then refused 21 0
     else allowed_of T sender m room a
 
 -- IAM for circuit 0, with an empty called number and no optional part
@@ -270,8 +270,8 @@ depends-on-the-merge = (
     first-same e = cc
 
     swapped : (q : ℕ) (b d : Bool) → eqb 1 q ≡ b → eqb 2 q ≡ d
-        → (if d then seized_by 2 ∷ (if b then seized_by 1 ∷ [] else []) else if b then seized_by 1 ∷ [] else [])
-        ≡ (if b then seized_by 1 ∷ (if d then seized_by 2 ∷ [] else []) else if d then seized_by 2 ∷ [] else [])
+        → (when d then seized_by 2 ∷ (when b then seized_by 1 ∷ [] else []) else when b then seized_by 1 ∷ [] else [])
+        ≡ (when b then seized_by 1 ∷ (when d then seized_by 2 ∷ [] else []) else when d then seized_by 2 ∷ [] else [])
     swapped q true true e f = let z : ◌≡◌ {A = ℕ} 1 2 = eqb-true 1 q e ∙ sym (eqb-true 2 q f) in absurd (omega arith)
     swapped q true false e f = refl
     swapped q false true e f = refl
@@ -280,8 +280,8 @@ depends-on-the-merge = (
 -- ---- 22 looked at before 19
 abbrev helped_first : Tables → ℕ → List ℕ → ℕ → Ask → Answer Ask
 helped_first T sender m room a =
-    if is_unhelpable T sender a then refused 22 0
-    else if is_found (first_foreign_lem T.owners T.helpers sender a.circuit (a.range + 1)) then refused 19 0
+    when is_unhelpable T sender a then refused 22 0
+    else when is_found (first_foreign_lem T.owners T.helpers sender a.circuit (a.range + 1)) then refused 19 0
     else allowed_of T sender m room a
 
 -- IAM on a stranger's circuit: the wrong order speaks of a help that the sender
@@ -354,8 +354,8 @@ helpers-merge-matters = (
     first_of e = cc
 
     other_way : (q : ℕ) (b d : Bool) → eqb 1 q ≡ b → eqb 2 q ≡ d
-        → (if d then seized_by 2 ∷ (if b then helper_blocks ∷ [] else []) else if b then helper_blocks ∷ [] else [])
-        ≡ (if b then helper_blocks ∷ (if d then seized_by 2 ∷ [] else []) else if d then seized_by 2 ∷ [] else [])
+        → (when d then seized_by 2 ∷ (when b then helper_blocks ∷ [] else []) else when b then helper_blocks ∷ [] else [])
+        ≡ (when b then helper_blocks ∷ (when d then seized_by 2 ∷ [] else []) else when d then seized_by 2 ∷ [] else [])
     other_way q true true e f = let z : ◌≡◌ {A = ℕ} 1 2 = eqb-true 1 q e ∙ sym (eqb-true 2 q f) in absurd (omega arith)
     other_way q true false e f = refl
     other_way q false true e f = refl
@@ -364,9 +364,9 @@ helpers-merge-matters = (
 -- ---- 20 looked at before 22
 abbrev legal_before_helped : Tables → ℕ → List ℕ → ℕ → Ask → Answer Ask
 legal_before_helped T sender m room a =
-    if is_found (first_foreign_lem T.owners T.helpers sender a.circuit (a.range + 1)) then refused 19 0
-    else if is_found (first_illegal_lem T.states a.circuit (a.range + 1)) then refused 20 0
-    else if is_unhelpable T sender a then refused 22 0
+    when is_found (first_foreign_lem T.owners T.helpers sender a.circuit (a.range + 1)) then refused 19 0
+    else when is_found (first_illegal_lem T.states a.circuit (a.range + 1)) then refused 20 0
+    else when is_unhelpable T sender a then refused 22 0
     else allowed_of T sender m room a
 
 -- the helper seizes a circuit whose row is not legal: the wrong order gives

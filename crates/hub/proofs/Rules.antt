@@ -9,7 +9,7 @@ use native.Mathlib.Nat.{add-zero, zero-add}
 use borrow.Author.Tests.{eq-eqb, ne_eqb, eqb-true, ltb-true, ltb-false, not-false}
 use lib.Dec.{eqb, ltb}
 use lib.ListN.{length}
-use Rattle.octets.specs.Choice.{if◌then◌else◌}
+use Rattle.octets.specs.Choice.{when◌then◌else◌}
 use Rattle.octets.specs.Octet.{octet, octets}
 use Rattle.octets.specs.Filled.{filled}
 use Rattle.isup.specs.declared.Message.{Message}
@@ -298,7 +298,7 @@ module _ (T : Tables) (sender : ℕ) (m buffer : List ℕ) (x : Message) (n : �
       (decided (ltb (block_kind (indicator_in m x)) 1))
 
   -- and marks 32 circuits at the most, of those that it names
-  pub group-few : (x.kind ≡ CGB) ⊎ (x.kind ≡ CGU) → total (λ n. if mark_of m (x.parts.first.from + 1) n then 1 else 0) 0 (range_in m x.parts.first + 1) ≤ 32
+  pub group-few : (x.kind ≡ CGB) ⊎ (x.kind ≡ CGU) → total (λ n. when mark_of m (x.parts.first.from + 1) n then 1 else 0) 0 (range_in m x.parts.first + 1) ≤ 32
   group-few k = let w = group-whole k in omega (arith, w.few, marks-counted m x.parts.first)
 
   -- a named circuit passes only if the sender owns it or helps it

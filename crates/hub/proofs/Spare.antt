@@ -10,7 +10,7 @@ use borrow.Author.Tests.{ne_eqb, ltb-true, ltb-false}
 use lib.Dec.{ltb}
 use lib.ListN.{length}
 use Rattle.octets.specs.Octet.{octet, octets}
-use Rattle.octets.specs.Choice.{if◌then◌else◌}
+use Rattle.octets.specs.Choice.{when◌then◌else◌}
 use Rattle.octets.specs.Answer.{Answer, accepted, refused, ◌then◌}
 use Rattle.octets.specs.Filled.{filled}
 use Rattle.octets.proofs.Answer.{accepted-same}
@@ -70,7 +70,7 @@ spare-alike T sender m m' buffer x s =
     ∙ ap (carried_out T m buffer) (sym (grant-judged T sender m (length buffer)))
   where
     judged-alike : judged_of T sender m' ≡ judged_of T sender m
-    judged-alike = ap (λ (g : Answer Ask). if sized T then (g then permitted_of T sender) else refused 16 0) (ask-alike m m' x s)
+    judged-alike = ap (λ (g : Answer Ask). when sized T then (g then permitted_of T sender) else refused 16 0) (ask-alike m m' x s)
 
     go : (g : Answer Ask) → judged_of T sender m ≡ g → carried_out T m' buffer (g then roomed T m' (length buffer)) ≡ carried_out T m buffer (g then roomed T m (length buffer))
     go (refused n at) e = refl
@@ -99,6 +99,6 @@ spare-alike T sender m m' buffer x s =
             by-room : (room : ℕ) (l : List ℕ) → carried_out T l buffer (roomed T l room a) ≡ carried (ltb room (length (reply_of T.states l a))) (reply_of T.states l a) (rows_after l a T.states)
             by-room room l = cases (ltb room (length (reply_of T.states l a)))
               where
-                cases : (t : Bool) → carried_out T l buffer (if t then refused 13 0 else accepted a) ≡ carried t (reply_of T.states l a) (rows_after l a T.states)
+                cases : (t : Bool) → carried_out T l buffer (when t then refused 13 0 else accepted a) ≡ carried t (reply_of T.states l a) (rows_after l a T.states)
                 cases true = refl
                 cases false = refl

@@ -8,7 +8,7 @@ use lib.Dec.{eqb}
 use lib.ListN.{length, replicate, length-replicate}
 use borrow.Author.Tests.{eqb-false, ne_eqb}
 use Rattle.octets.specs.Octet.{octet}
-use Rattle.octets.specs.Choice.{if◌then◌else◌}
+use Rattle.octets.specs.Choice.{when◌then◌else◌}
 use Rattle.octets.specs.Answer.{Answer, accepted, refused, ◌then◌}
 use Rattle.octets.proofs.Octet.{zero-at}
 use Rattle.asks.specs.declared.Ask.{Ask}
@@ -28,10 +28,10 @@ rights-count s o h k q l e m b = ap (carried_out (tables s o h) m b) granted ∙
     permitted a =
         ap
         (λ (good : ℕ → Bool).
-        if is_found (first_not good a.circuit (a.range + 1)) then refused 19 0
-        else if is_unhelpable (tables s o h) q a then refused 22 0
-        else if is_found (first_illegal_lem s a.circuit (a.range + 1)) then refused 20 0
-        else if is_taken s a.act a.circuit then refused 21 0
+        when is_found (first_not good a.circuit (a.range + 1)) then refused 19 0
+        else when is_unhelpable (tables s o h) q a then refused 22 0
+        else when is_found (first_illegal_lem s a.circuit (a.range + 1)) then refused 20 0
+        else when is_taken s a.act a.circuit then refused 21 0
         else accepted a)
         (λ i c. e c i)
 
@@ -45,8 +45,8 @@ rights-count s o h k q l e m b = ap (carried_out (tables s o h) m b) granted ∙
 
     granted : grant_of (tables s o h) q m (length b) ≡ grant_of (tables s o k) q m (length b)
     granted =
-        ap (λ (n : ℕ). if (if eqb (length s) 4096 then (if eqb (length o) 4096 then eqb n 4096 else false) else false) then (ask_of m then allowed_of (tables s o h) q m (length b)) else refused 16 0) l
-        ∙ ap (λ (g : Answer Ask). if sized (tables s o k) then g else refused 16 0) (asked (ask_of m))
+        ap (λ (n : ℕ). when (when eqb (length s) 4096 then (when eqb (length o) 4096 then eqb n 4096 else false) else false) then (ask_of m then allowed_of (tables s o h) q m (length b)) else refused 16 0) l
+        ∙ ap (λ (g : Answer Ask). when sized (tables s o k) then g else refused 16 0) (asked (ask_of m))
 
     carried : (g : Answer Ask) → carried_out (tables s o h) m b g ≡ carried_out (tables s o k) m b g
     carried (accepted a) = refl
@@ -57,14 +57,14 @@ pub owners-help-none : (s o : List ℕ) (q : ℕ) (m b : List ℕ) → act_of (t
 owners-help-none s o q m b =
     rights-count s o o (replicate (length o) 0) q (sym (length-replicate (length o) 0)) (λ c. twice (is_mine o q c) ∙ sym (zeros c (eqb q 0) refl)) m b
   where
-    twice : (x : Bool) → (if x then true else x) ≡ x
+    twice : (x : Bool) → (when x then true else x) ≡ x
     twice true = refl
     twice false = refl
 
-    plain : (x : Bool) → (if x then true else false) ≡ x
+    plain : (x : Bool) → (when x then true else false) ≡ x
     plain true = refl
     plain false = refl
 
     zeros : (c : ℕ) (x : Bool) → eqb q 0 ≡ x → has_right o (replicate (length o) 0) q c ≡ is_mine o q c
     zeros c true p = rw p refl
-    zeros c false p = rw p (ap (λ (n : ℕ). if eqb (octet o c) q then true else eqb n q) (zero-at (length o) c) ∙ ap (λ (x : Bool). if eqb (octet o c) q then true else x) (ne_eqb 0 q (λ e. eqb-false q 0 p (sym e))) ∙ plain (eqb (octet o c) q))
+    zeros c false p = rw p (ap (λ (n : ℕ). when eqb (octet o c) q then true else eqb n q) (zero-at (length o) c) ∙ ap (λ (x : Bool). when eqb (octet o c) q then true else x) (ne_eqb 0 q (λ e. eqb-false q 0 p (sym e))) ∙ plain (eqb (octet o c) q))

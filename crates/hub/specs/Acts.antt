@@ -1,7 +1,7 @@
 -- The hub, all of it: the answer, the states and the answer buffer afterwards, as one value.
 -- Order: 16, the reader's, 17, 14, 18, 19, 22, 20, 21, 13; all of them before anything is stored.
 use Rattle.std.specs.Prelude.{ℕ, List, ltb, length}
-use Rattle.octets.specs.Choice.{if◌then◌else◌}
+use Rattle.octets.specs.Choice.{when◌then◌else◌}
 use Rattle.octets.specs.Answer.{Answer, accepted, refused, ◌then◌}
 use Rattle.octets.specs.Filled.{filled}
 use Rattle.asks.specs.declared.Ask.{Ask}
@@ -13,7 +13,7 @@ use Rattle.hub.specs.Replies.{reply_of}
 
 -- 13 where the answer has no room
 abbrev pub roomed : Tables → List ℕ → ℕ → Ask → Answer Ask
-roomed T m room a = if ltb room (length (reply_of T.states m a)) then refused 13 0 else accepted a
+roomed T m room a = when ltb room (length (reply_of T.states m a)) then refused 13 0 else accepted a
 
 -- 19, 22, 20, 21, then 13
 unfoldable pub allowed_of : Tables → ℕ → List ℕ → ℕ → Ask → Answer Ask
@@ -21,11 +21,11 @@ allowed_of T sender m room a = permitted_of T sender a then roomed T m room
 
 -- what a call asks and is permitted, before its answer is looked at, or its number
 unfoldable pub judged_of : Tables → ℕ → List ℕ → Answer Ask
-judged_of T sender m = if sized T then (ask_of m then permitted_of T sender) else refused 16 0
+judged_of T sender m = when sized T then (ask_of m then permitted_of T sender) else refused 16 0
 
 -- what a call asks and is granted, or its number
 unfoldable pub grant_of : Tables → ℕ → List ℕ → ℕ → Answer Ask
-grant_of T sender m room = if sized T then (ask_of m then allowed_of T sender m room) else refused 16 0
+grant_of T sender m room = when sized T then (ask_of m then allowed_of T sender m room) else refused 16 0
 
 -- the answer, and what the states and the answer buffer hold afterwards
 pub record After : Type 0 where

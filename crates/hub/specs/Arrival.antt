@@ -2,7 +2,7 @@
 -- messages that are heard, and desk calls.
 use Rattle.std.specs.Prelude.{ℕ, ◌/◌, ◌%◌, ◌≡◌, Bool, true, false, ◌⊎◌, List, [], ◌∷◌, eqb, ltb, length}
 use Rattle.octets.specs.Octet.{octet}
-use Rattle.octets.specs.Choice.{if◌then◌else◌}
+use Rattle.octets.specs.Choice.{when◌then◌else◌}
 use Rattle.octets.specs.Answer.{Answer}
 use Rattle.arrival.specs.Calls.{Calls}
 use Rattle.rights.specs.Tables.{tables}
@@ -24,7 +24,7 @@ pub record Call : Type 0 where
 -- party 0 where nobody owns it or it is above 4095
 abbrev pub party_of : List ℕ → Event → ℕ
 party_of owners (heard sender message) = sender
-party_of owners (ours circuit set) = if ltb 4095 circuit then 0 else octet owners circuit
+party_of owners (ours circuit set) = when ltb 4095 circuit then 0 else octet owners circuit
 
 -- what a call has back: the count of answer octets or the number, and all of the buffer afterwards
 pub record Reply : Type 0 where
@@ -45,9 +45,9 @@ replied r = record { answer = r.answer; buffer = r.buffer }
 -- 0 helps nothing, and above 4095 there is no circuit
 abbrev pub holds_of : List ℕ → List ℕ → ℕ → ℕ → Bool
 holds_of owners helpers q i =
-    if ltb 4095 i then false
-    else if eqb (octet owners i) q then true
-    else if eqb q 0 then false
+    when ltb 4095 i then false
+    else when eqb (octet owners i) q then true
+    else when eqb q 0 then false
     else eqb (octet helpers i) q
 
 -- R48. the same as a statement: a party owns the circuit (party 0 where nobody does), or helps it
@@ -82,16 +82,16 @@ lending owners s a = record { asks = a; buffer = s.buffers (party_of owners a) }
 
 -- a party's buffer as its call left it, the others as they were
 abbrev pub lent_again : (ℕ → List ℕ) → ℕ → List ℕ → ℕ → List ℕ
-lent_again buffers party left q = if eqb q party then left else buffers q
+lent_again buffers party left q = when eqb q party then left else buffers q
 
 -- what belongs to parties: the rows at even places, the buffers at odd ones
 abbrev pub standing_at : Standing → ℕ → List ℕ
-standing_at s j = if eqb (j % 2) 0 then octet s.rows (j / 2) ∷ [] else s.buffers (j / 2)
+standing_at s j = when eqb (j % 2) 0 then octet s.rows (j / 2) ∷ [] else s.buffers (j / 2)
 
 -- a party has a right on the rows that it holds and on its own buffer
 abbrev pub stands_of : List ℕ → List ℕ → ℕ → ℕ → Bool
 stands_of owners helpers q j =
-    if eqb (j % 2) 0 then holds_of owners helpers q (j / 2) else eqb (j / 2) q
+    when eqb (j % 2) 0 then holds_of owners helpers q (j / 2) else eqb (j / 2) q
 
 -- the same hub, with its buffers kept
 abbrev pub hub_keeping : List ℕ → List ℕ → Calls

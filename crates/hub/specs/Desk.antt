@@ -2,7 +2,7 @@
 -- 16, 9, 20, 13; all of them before anything is stored.
 use Rattle.std.specs.Prelude.{ℕ, ◌<◌, ◌≡◌, Bool, List, [], ◌∷◌, ltb, eqb, length}
 use Rattle.octets.specs.Octet.{octet}
-use Rattle.octets.specs.Choice.{if◌then◌else◌}
+use Rattle.octets.specs.Choice.{when◌then◌else◌}
 use Rattle.octets.specs.Answer.{Answer, accepted, refused}
 use Rattle.octets.specs.Applied.{applied}
 use Rattle.octets.specs.Faults.{Fault, fault}
@@ -15,10 +15,10 @@ use Rattle.hub.specs.Acts.{After, after}
 -- where its row is not legal, 13 where there is no room for three octets
 unfoldable pub desk_grant : List ℕ → ℕ → ℕ → Answer ℕ
 desk_grant states circuit room =
-    if eqb (length states) 4096 then
-    (if ltb 4095 circuit then refused 9 0
-    else if is_legal (octet states circuit)
-    then (if ltb room 3 then refused 13 0 else accepted circuit)
+    when eqb (length states) 4096 then
+    (when ltb 4095 circuit then refused 9 0
+    else when is_legal (octet states circuit)
+    then (when ltb room 3 then refused 13 0 else accepted circuit)
     else refused 20 0)
     else refused 16 0
 

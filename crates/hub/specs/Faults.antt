@@ -2,7 +2,7 @@
 -- 17, 14, 18, 19, 22, 20, 21, 13.
 use Rattle.std.specs.Prelude.{ℕ, ◌+◌, ◌<◌, List, [], ◌∷◌, ◌++◌, eqb}
 use Rattle.octets.specs.Octet.{octet}
-use Rattle.octets.specs.Choice.{if◌then◌else◌}
+use Rattle.octets.specs.Choice.{when◌then◌else◌}
 use Rattle.octets.specs.Among.{among}
 use Rattle.octets.specs.Faults.{Fault, fault}
 use Rattle.isup.specs.declared.Message.{Message}
@@ -18,12 +18,12 @@ use Rattle.rights.specs.Faults.{WrongTables, right_faults}
 -- 3; GRA has 6 before its status, CGBA and CGUA 7; CQR has 9+r
 abbrev pub answer_size : ℕ → ℕ → ℕ → ℕ
 answer_size kind r row =
-    if eqb kind IAM then 0
-    else if eqb kind REL then 4
-    else if eqb kind RSC then (if eqb (local row) 1 then 7 else 4)
-    else if among kind (BLO ∷ UBL ∷ []) then 3
-    else if eqb kind GRS then 6 + width r
-    else if eqb kind CQM then 9 + r
+    when eqb kind IAM then 0
+    else when eqb kind REL then 4
+    else when eqb kind RSC then (when eqb (local row) 1 then 7 else 4)
+    else when among kind (BLO ∷ UBL ∷ []) then 3
+    else when eqb kind GRS then 6 + width r
+    else when eqb kind CQM then 9 + r
     else 7 + width r
 
 -- R34. 13: lent output too short

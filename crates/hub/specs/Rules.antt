@@ -2,7 +2,7 @@
 -- a row is said in crate `rows`.
 use Rattle.std.specs.Prelude.{ℕ, ◌+◌, ◌/◌, ◌%◌, ◌≤◌, ◌<◌, ◌≡◌, Bool, true, false, List, [], ◌∷◌, ◌⊎◌, eqb, length}
 use Rattle.octets.specs.Octet.{octet}
-use Rattle.octets.specs.Choice.{if◌then◌else◌}
+use Rattle.octets.specs.Choice.{when◌then◌else◌}
 use Rattle.octets.specs.Answer.{accepted}
 use Rattle.octets.specs.Filled.{filled}
 use Rattle.rows.specs.Rows.{local}
@@ -52,12 +52,12 @@ Acknowledges buffer buffer' n m x type indicator =
 -- CGU by CGUA, CQM by CQR; and no other is answered
 unfoldable pub answer_types : ℕ → ℕ → List ℕ
 answer_types kind row =
-    if eqb kind REL then RLC ∷ []
-    else if eqb kind RSC then (if eqb (local row) 1 then BLO ∷ RLC ∷ [] else RLC ∷ [])
-    else if eqb kind BLO then BLA ∷ []
-    else if eqb kind UBL then UBA ∷ []
-    else if eqb kind GRS then GRA ∷ []
-    else if eqb kind CGB then CGBA ∷ []
-    else if eqb kind CGU then CGUA ∷ []
-    else if eqb kind CQM then CQR ∷ []
+    when eqb kind REL then RLC ∷ []
+    else when eqb kind RSC then (when eqb (local row) 1 then BLO ∷ RLC ∷ [] else RLC ∷ [])
+    else when eqb kind BLO then BLA ∷ []
+    else when eqb kind UBL then UBA ∷ []
+    else when eqb kind GRS then GRA ∷ []
+    else when eqb kind CGB then CGBA ∷ []
+    else when eqb kind CGU then CGUA ∷ []
+    else when eqb kind CQM then CQR ∷ []
     else []

@@ -1,9 +1,10 @@
 // What the hub does with a message and with a call of our own desk, in any order of arrival:
 // definitions, theorems and types.
+#![tactic(auto)]
 
 // What a call did: how many octets its answer has, and the first and the last circuit that its
 // message names; or the refusal's number with the octet that it is about.
-#[derive(Drop)]
+#[derive(Clone, Copy)]
 pub enum Handled {
     Done(usize, usize, usize),
     Refused(u8, usize),

@@ -2,7 +2,7 @@
 -- is empty) and the optional run without its closing 0.
 -- The order is the paper's: 9, 3, 10, 11, 12, 2, 13.
 use Rattle.std.specs.Prelude.{ℕ, ◌/◌, ◌%◌, List, [], ◌∷◌, ltb}
-use Rattle.octets.specs.Choice.{if◌then◌else◌}
+use Rattle.octets.specs.Choice.{when◌then◌else◌}
 use Rattle.octets.specs.Answer.{Answer, refused, ◌then◌}
 use Rattle.octets.specs.Filled.{Done, done, room_for}
 use Rattle.writing.specs.Write.{Order, order}
@@ -23,7 +23,7 @@ order_of circuit kind fixed first second run = order (head_of circuit) kind fixe
 -- is not in the table, 10, 11, 12, 2
 unfoldable pub write_in : ℕ → ℕ → List ℕ → List ℕ → List ℕ → List ℕ → Answer (ℕ × List ℕ)
 write_in circuit kind fixed first second run =
-    if ltb last_circuit circuit then refused 9 0
+    when ltb last_circuit circuit then refused 9 0
     else family_write_in isup (order_of circuit kind fixed first second run)
 
 -- all that writing does: how many octets were written, or the refusal, 13

@@ -1,5 +1,7 @@
 // ISUP: definitions and theorems alone, the limits and type octets for code,
 // and what reading answers.
+#![tactic(auto)]
+
 use parts::Parts;
 
 // A message has so many octets at the most.
@@ -43,7 +45,7 @@ pub const CQR: u8 = 0x2B;
 
 // A message that is well formed: its circuit, its type, and where its parts
 // stand. ISUP has no third variable part.
-#[derive(Drop)]
+#[derive(Clone, Copy)]
 pub struct Message {
     pub circuit: u16,
     pub kind: u8,
@@ -51,7 +53,7 @@ pub struct Message {
 }
 
 // A message, or the refusal's number with the octet that it is about.
-#[derive(Drop)]
+#[derive(Clone, Copy)]
 pub enum Reading {
     Read(Message),
     Refused(u8, usize),

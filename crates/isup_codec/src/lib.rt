@@ -1,4 +1,6 @@
 // ISUP: the 24 types, the circuit number, the reader and the writer.
+#![tactic(auto)]
+
 ghost use Rattle.std.specs.Prelude.{◌≡◌, ◌+◌, ◌≤◌, ◌<◌, length};
 ghost use Rattle.octets.specs.Filled.{leaving};
 ghost use Rattle.isup.specs.Table.{shape_of};

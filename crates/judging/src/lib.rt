@@ -1,5 +1,7 @@
 // Whether the hub does what a message asks: the first refusal that stands
 // against it, or what is asked.
+#![tactic(auto)]
+
 ghost use Rattle.std.specs.Prelude.{◌≡◌};
 ghost use Rattle.asks.specs.Told.{verdict_told};
 ghost use Rattle.rights.specs.Tables.{tables};

@@ -1,4 +1,6 @@
 // Called party numbers: their contents are written from values and signals.
+#![tactic(auto)]
+
 ghost use Rattle.std.specs.Prelude.{◌≡◌, false, ◌∷◌, ◌+◌, ◌*◌, ◌/◌, ◌≤◌, length, drop};
 ghost use Rattle.std.proofs.lemmas.List.Edits.{sets};
 ghost use denote.Ref.{at_last};
@@ -76,14 +78,17 @@ fn write_high(signals: &&[u8], out: &mut &mut [u8], at: usize, left: usize, low:
 
 // Writes all signals, the low half of the first octet first: lends its buffer to the steps, and
 // leaves their octets after the first two of `out`.
-fn write_signals(signals: &&[u8], mut out: &mut [u8], count: usize)
+fn write_signals(signals: &&[u8], out: &mut [u8], count: usize)
     requires { (count ≡ length signals.now.now) × (length signals.now.now ≤ 30)
         × (any_above15 signals.now.now ≡ false)
         × (2 + (length signals.now.now + 1) / 2 ≤ length out.old) }
     ensures { out.new ≡
         sets out.old 2 (two_to_an_octet signals.now.now) }
 {
-    write_low(signals, &mut out, 0, count);
+    // Lent out of a tuple: that loan is one that Rattle follows home.
+    let mut place = (&mut *out,);
+    let lent = &mut place;
+    write_low(signals, &mut lent.0, 0, count);
 }
 
 // Writes a number: its octets fill the front of `out`, their count is the

@@ -8,7 +8,7 @@ use native.Mathlib.Omega.{arith}
 use lib.Dec.{ltb, eqb}
 use lib.ListN.{length}
 use Rattle.octets.specs.Octet.{octet}
-use Rattle.octets.specs.Choice.{if◌then◌else◌}
+use Rattle.octets.specs.Choice.{when◌then◌else◌}
 use Rattle.octets.specs.Answer.{accepted, refused, ◌then◌}
 use Rattle.octets.proofs.Answer.{then_same}
 use Rattle.layout.specs.declared.Shape.{Shape}
@@ -35,23 +35,23 @@ module _ (m m' : List ℕ) (w : ℕ) (l : length m ≡ length m') (s : (i : ℕ)
   slot_same : (at k n e : ℕ) → w ≤ at → variable_slot_lem m at k n e ≡ variable_slot_lem m' at k n e
   unfolding variable_slot_lem variable_at_lem
   slot_same at k n e h =
-      ap (λ z. if ltb k n then z else accepted nothing)
+      ap (λ z. when ltb k n then z else accepted nothing)
       (then_same (pointed m (at + k) e) (pointed-same (at + k) e (omega arith)) (λ t q. variable-from-same t (behind (at + k) e t (omega arith) q)))
 
   optional-same : (o : Bool) (e : ℕ) → w < e → optional_slot_lem m o e ≡ optional_slot_lem m' o e
   unfolding optional_slot_lem optional_at_lem
   optional-same o e h =
       let a : w ≤ e - 1 = omega arith in
-      ap (λ z. if o then z else accepted nothing)
-      (ap (λ z. if eqb z 0 then accepted nothing else (pointed m (e - 1) e then λ t. run_from m t)) (s (e - 1) a)
-      ∙ ap (λ z. if eqb (octet m' (e - 1)) 0 then accepted nothing else z)
+      ap (λ z. when o then z else accepted nothing)
+      (ap (λ z. when eqb z 0 then accepted nothing else (pointed m (e - 1) e then λ t. run_from m t)) (s (e - 1) a)
+      ∙ ap (λ z. when eqb (octet m' (e - 1)) 0 then accepted nothing else z)
       (then_same (pointed m (e - 1) e) (pointed-same (e - 1) e a) (λ t q. run-same t (behind (e - 1) e t a q))))
 
   container-same : (x : Shape) → container_of m w x ≡ container_of m' w x
   unfolding container_of
   container-same x =
       rw l
-      (ap (λ z. if ltb (length m') (end_of w x) then refused 4 (length m') else z)
+      (ap (λ z. when ltb (length m') (end_of w x) then refused 4 (length m') else z)
       (then_same (variable_slot_lem m (start_of w x) 0 x.vars (end_of w x)) (slot_same (start_of w x) 0 x.vars (end_of w x) (omega arith)) (λ a ea.
       then_same (variable_slot_lem m (start_of w x) 1 x.vars (end_of w x)) (slot_same (start_of w x) 1 x.vars (end_of w x) (omega arith)) (λ b eb.
       then_same (variable_slot_lem m (start_of w x) 2 x.vars (end_of w x)) (slot_same (start_of w x) 2 x.vars (end_of w x) (omega arith)) (λ c ec.

@@ -10,7 +10,7 @@ use borrow.Author.Tests.{ltb-true, ltb-false, leb-true, leb-false, eqb-true, eqb
 use lib.Dec.{ltb, leb, eqb}
 use lib.ListN.{length}
 use Rattle.octets.specs.Octet.{octet}
-use Rattle.octets.specs.Choice.{if◌then◌else◌}
+use Rattle.octets.specs.Choice.{when◌then◌else◌}
 use Rattle.octets.specs.Answer.{Answer, accepted, refused, ◌then◌}
 use Rattle.octets.specs.Faults.{Fault, Judges, fault}
 use Rattle.octets.proofs.Answer.{accepted-same}
@@ -99,7 +99,7 @@ larger-one a b at at' x y = ⊎_elim (λ p. ⊎_elim (λ q. p ∙ sym q) (λ q. 
 
 sharing-judges : {A B : Span → Type 0} {y : Answer Parts} {fs : List Fault} (a b : Span)
     → A a → ((x : Span) → A x → x ≡ a) → B b → ((x : Span) → B x → x ≡ b) → Proper a → Proper b
-    → Judges y fs → Judges (if shares_of a b then refused 8 (later a b) else y) (sharing A B ∷ fs)
+    → Judges y fs → Judges (when shares_of a b then refused 8 (later a b) else y) (sharing A B ∷ fs)
 sharing-judges {A} {B} {y} {fs} a b ha ua hb ub pa pb j =
     judges-choice (shares_of a b)
     (λ t. judges-there (sharing A B) fs (later a b) (a, b, ha, hb, (shares-exactly a b pa pb).0 t, larger-later a b)

@@ -4,7 +4,7 @@
 -- pointer 5 then 7; then 8.
 use Rattle.std.specs.Prelude.{ℕ, ◌+◌, ◌-◌, Bool, true, false, List, length, ltb, leb, eqb}
 use Rattle.octets.specs.Octet.{octet}
-use Rattle.octets.specs.Choice.{if◌then◌else◌}
+use Rattle.octets.specs.Choice.{when◌then◌else◌}
 use Rattle.octets.specs.Answer.{Answer, accepted, refused, ◌then◌}
 use Rattle.parts.specs.declared.Span.{Span}
 use Rattle.layout.specs.declared.Shape.{Shape}
@@ -29,8 +29,8 @@ target m p = p + octet m p
 -- length or beyond: 5, about the pointer
 abbrev pub pointed : List ℕ → ℕ → ℕ → Answer ℕ
 pointed m p e =
-    if ltb (target m p) e then refused 5 p
-    else if leb (length m) (target m p) then refused 5 p
+    when ltb (target m p) e then refused 5 p
+    else when leb (length m) (target m p) then refused 5 p
     else accepted (target m p)
 
 -- past a variable parameter that starts at t: a length octet, then that many octets
@@ -40,7 +40,7 @@ past m t = t + 1 + octet m t
 -- the variable parameter that starts at t. 6 where its contents pass the
 -- message's length, about the length octet
 abbrev pub variable_from_lem : List ℕ → ℕ → Answer Span
-variable_from_lem m t = if ltb (length m) (past m t) then refused 6 t else accepted (span t (past m t))
+variable_from_lem m t = when ltb (length m) (past m t) then refused 6 t else accepted (span t (past m t))
 
 -- the variable parameter whose pointer stands at p; a pointer of 0 is no exception
 unfoldable pub variable_at_lem : List ℕ → ℕ → ℕ → Answer Span
@@ -59,7 +59,7 @@ run_from m t = closed t (stop_from m t)
 
 -- the optional part whose pointer stands at p; the pointer may be 0: nothing there
 unfoldable pub optional_at_lem : List ℕ → ℕ → ℕ → Answer Span
-optional_at_lem m p e = if eqb (octet m p) 0 then accepted nothing else (pointed m p e then run_from m)
+optional_at_lem m p e = when eqb (octet m p) 0 then accepted nothing else (pointed m p e then run_from m)
 
 -- how many pointers the optional part has: one if there is such a part
 abbrev pub bit : Bool → ℕ
@@ -77,17 +77,17 @@ end_of w s = start_of w s + s.vars + bit s.opt
 
 -- the k-th of n variable parameters, where the first pointer stands at `at`
 unfoldable pub variable_slot_lem : List ℕ → ℕ → ℕ → ℕ → ℕ → Answer Span
-variable_slot_lem m at k n e = if ltb k n then variable_at_lem m (at + k) e else accepted nothing
+variable_slot_lem m at k n e = when ltb k n then variable_at_lem m (at + k) e else accepted nothing
 
 -- the optional part, whose pointer is the last of the pointers
 unfoldable pub optional_slot_lem : List ℕ → Bool → ℕ → Answer Span
-optional_slot_lem m o e = if o then optional_at_lem m (e - 1) e else accepted nothing
+optional_slot_lem m o e = when o then optional_at_lem m (e - 1) e else accepted nothing
 
 -- a message of that shape, its type octet at w. 4 where the fixed part or the
 -- pointers are cut off, about the message's end
 unfoldable pub container_of : List ℕ → ℕ → Shape → Answer Parts
 container_of m w s =
-    if ltb (length m) (end_of w s) then refused 4 (length m)
+    when ltb (length m) (end_of w s) then refused 4 (length m)
     else (variable_slot_lem m (start_of w s) 0 s.vars (end_of w s) then λ a.
     variable_slot_lem m (start_of w s) 1 s.vars (end_of w s) then λ b.
     variable_slot_lem m (start_of w s) 2 s.vars (end_of w s) then λ c.
@@ -100,7 +100,7 @@ kind_at m w = octet m w
 
 -- a row has three variable parameters at the most: 3 for another, about the type octet
 abbrev pub shaped_of : List ℕ → ℕ → Shape → Answer Parts
-shaped_of m w s = if ltb 3 s.vars then refused 3 w else container_of m w s
+shaped_of m w s = when ltb 3 s.vars then refused 3 w else container_of m w s
 
 -- 3 for a type that is not in the family's table, about the type octet
 abbrev pub of_row : List ℕ → ℕ → Row → Answer Parts
@@ -111,6 +111,6 @@ of_row m w Unknown = refused 3 w
 -- it is longer than the longest
 unfoldable pub parts_of : List ℕ → ℕ → ℕ → Row → Answer Parts
 parts_of m w most r =
-    if leb (length m) w then refused 1 0
-    else if ltb most (length m) then refused 2 0
+    when leb (length m) w then refused 1 0
+    else when ltb most (length m) then refused 2 0
     else of_row m w r

@@ -1,6 +1,6 @@
 -- A shape row packed into one octet.
 use Rattle.std.specs.Prelude.{ℕ, ◌+◌, ◌*◌, ◌/◌, ◌%◌, eqb}
-use Rattle.octets.specs.Choice.{if◌then◌else◌}
+use Rattle.octets.specs.Choice.{when◌then◌else◌}
 use Rattle.layout.specs.declared.Row.{Row}
 use Rattle.layout.specs.declared.Row.TheVariants.{Has, Unknown}
 use Rattle.layout.specs.Container.{bit}
@@ -13,4 +13,4 @@ packed_of (Has s) = 16 * s.fixed + 4 * s.vars + 2 * bit s.opt + 1
 
 -- the row that a packed one says; a number without the 1 says none
 unfoldable pub unpacked_of : ℕ → Row
-unpacked_of p = if eqb (p % 2) 0 then Unknown else Has (record { fixed = p / 16; vars = p / 4 % 4; opt = eqb (p / 2 % 2) 1 })
+unpacked_of p = when eqb (p % 2) 0 then Unknown else Has (record { fixed = p / 16; vars = p / 4 % 4; opt = eqb (p / 2 % 2) 1 })

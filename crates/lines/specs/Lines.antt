@@ -2,7 +2,7 @@
 -- refusal, what was written to a lent buffer.
 use Rattle.std.specs.Prelude.{ℕ, List, ◌++◌, ltb, take, replicate}
 use Prim.Native.String.{String}
-use Rattle.octets.specs.Choice.{if◌then◌else◌}
+use Rattle.octets.specs.Choice.{when◌then◌else◌}
 use Rattle.octets.specs.Answer.{Answer, accepted, refused}
 use Rattle.octets.specs.Filled.{Done}
 use Rattle.words.specs.Said.{said}
@@ -25,8 +25,8 @@ refusal n = counted "refused " n
 -- every other number stays refused N
 unfoldable pub fault_line : ℕ → ℕ → List ℕ
 fault_line n at =
-    if ltb n 3 then refusal n
-    else if ltb 8 n then refusal n
+    when ltb n 3 then refusal n
+    else when ltb 8 n then refusal n
     else refusal n ++ counted " at " at
 
 -- octets 230113, of the buffer that was lent

@@ -1,1 +1,2 @@
 // What the lines of the desk's answers have in common: definitions and theorems alone.
+#![tactic(auto)]

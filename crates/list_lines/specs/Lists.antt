@@ -2,7 +2,7 @@
 -- message, as a cursor's steps give them.
 use Rattle.std.specs.Prelude.{ℕ, List, [], ◌∷◌, ◌++◌, eqb, length}
 use Rattle.octets.specs.Octet.{octets}
-use Rattle.octets.specs.Choice.{if◌then◌else◌}
+use Rattle.octets.specs.Choice.{when◌then◌else◌}
 use Rattle.octets.specs.Answer.{Answer, accepted, refused}
 use Rattle.runs.specs.Params.{Param}
 use Rattle.parts.specs.declared.Parts.{Parts}
@@ -47,8 +47,8 @@ list_in F m = list_by m (start_in F m) (read_in F m)
 -- the line of a row of the three, by what its field says; sccp-list is the last
 unfoldable pub list_line_lem : ℕ → List FieldSays → List ℕ
 list_line_lem which gs =
-    if eqb which LIST then list_in isup (octets_at gs 0)
-    else if eqb which BICC-LIST then list_in bicc (octets_at gs 0)
+    when eqb which LIST then list_in isup (octets_at gs 0)
+    else when eqb which BICC-LIST then list_in bicc (octets_at gs 0)
     else list_in sccp (octets_at gs 0)
 
 -- ---- as the parameters themselves say it

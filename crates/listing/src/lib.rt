@@ -1,5 +1,7 @@
 // What the desk answers to list, bicc-list and sccp-list: the optional
 // parameters of a message, by the cursor's steps.
+#![tactic(auto)]
+
 ghost use Rattle.std.specs.Prelude.{◌≡◌, length};
 ghost use Rattle.family.specs.Steps.{offer_at_lem, steps_from};
 ghost use Rattle.isup.specs.Table.{isup};

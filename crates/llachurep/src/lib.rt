@@ -4,6 +4,8 @@
 // `occupancy` and `nights`, velocities in `speeds`. Answers are one number, 65536 * N + v: N
 // is the refusal's number, 0 where there is none; v is then the octet that it is about, 0
 // where it is about none. A refusal changes nothing that was lent.
+#![tactic(auto)]
+
 ghost use Rattle.std.specs.Prelude.{◌≡◌, ◌≤◌, length, [], ◌∷◌};
 ghost use Rattle.octets.specs.Filled.{done, room_for, filled};
 ghost use Rattle.isup.specs.Write.{write_of};

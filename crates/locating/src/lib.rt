@@ -1,4 +1,6 @@
 // Finding optional parameters: the first of a name in the message, else in the customer's defaults.
+#![tactic(auto)]
+
 ghost use Rattle.std.specs.Prelude.{◌≡◌, []};
 ghost use Rattle.octets.specs.Stretch.{Stretch};
 ghost use Rattle.finding.specs.Find.{named_in, first_of, sought_in, locate_of, stretch_start, stretch_length, code_of, held_by_lem};

@@ -12,7 +12,7 @@ use borrow.Author.Tests.{eqb-true}
 use lib.Dec.{eqb}
 use lib.ListN.{length, replicate}
 use Rattle.octets.specs.Octet.{octet}
-use Rattle.octets.specs.Choice.{if◌then◌else◌}
+use Rattle.octets.specs.Choice.{when◌then◌else◌}
 use Rattle.octets.specs.Answer.{accepted, refused, ◌then◌}
 use Rattle.octets.proofs.Octet.{zero-at}
 use Rattle.layout.specs.Container.{parts_of}
@@ -65,9 +65,9 @@ run-accepted owners q [] rows = refl
 run-accepted owners q (s ∷ ss) rows = go (eqb s.sender q) (run-accepted owners q ss (heard_of owners rows s.sender s.message).rows)
   where
     go : (b : Bool) → count (accepted_from q) (outcomes owners (heard_of owners rows s.sender s.message).rows ss) ≡ count was_accepted (answers_of (hub owners (unhelped owners)) q (calls_in ss) (heard_of owners rows s.sender s.message).rows)
-        → (if (if b then (heard_of owners rows s.sender s.message).taken else false) then 1 else 0) + count (accepted_from q) (outcomes owners (heard_of owners rows s.sender s.message).rows ss)
-        ≡ count was_accepted (if b then (hub owners (unhelped owners)).answer (call_of s) rows ∷ answers_of (hub owners (unhelped owners)) q (calls_in ss) ((hub owners (unhelped owners)).after (call_of s) rows) else answers_of (hub owners (unhelped owners)) q (calls_in ss) ((hub owners (unhelped owners)).after (call_of s) rows))
-    go true e = ap (λ (n : ℕ). (if (heard_of owners rows s.sender s.message).taken then 1 else 0) + n) e
+        → (when (when b then (heard_of owners rows s.sender s.message).taken else false) then 1 else 0) + count (accepted_from q) (outcomes owners (heard_of owners rows s.sender s.message).rows ss)
+        ≡ count was_accepted (when b then (hub owners (unhelped owners)).answer (call_of s) rows ∷ answers_of (hub owners (unhelped owners)) q (calls_in ss) ((hub owners (unhelped owners)).after (call_of s) rows) else answers_of (hub owners (unhelped owners)) q (calls_in ss) ((hub owners (unhelped owners)).after (call_of s) rows))
+    go true e = ap (λ (n : ℕ). (when (heard_of owners rows s.sender s.message).taken then 1 else 0) + n) e
     go false e = zero-add _ ∙ e
 
 run-refused : (owners : List ℕ) (q : ℕ) (ss : List Recorded) (rows : Rows) → count (refused_from q) (outcomes owners rows ss) ≡ count was_refused (answers_of (hub owners (unhelped owners)) q (calls_in ss) rows)
@@ -76,9 +76,9 @@ run-refused owners q [] rows = refl
 run-refused owners q (s ∷ ss) rows = go (eqb s.sender q) (run-refused owners q ss (heard_of owners rows s.sender s.message).rows)
   where
     go : (b : Bool) → count (refused_from q) (outcomes owners (heard_of owners rows s.sender s.message).rows ss) ≡ count was_refused (answers_of (hub owners (unhelped owners)) q (calls_in ss) (heard_of owners rows s.sender s.message).rows)
-        → (if (if b then not (heard_of owners rows s.sender s.message).taken else false) then 1 else 0) + count (refused_from q) (outcomes owners (heard_of owners rows s.sender s.message).rows ss)
-        ≡ count was_refused (if b then (hub owners (unhelped owners)).answer (call_of s) rows ∷ answers_of (hub owners (unhelped owners)) q (calls_in ss) ((hub owners (unhelped owners)).after (call_of s) rows) else answers_of (hub owners (unhelped owners)) q (calls_in ss) ((hub owners (unhelped owners)).after (call_of s) rows))
-    go true e = ap (λ (n : ℕ). (if not (heard_of owners rows s.sender s.message).taken then 1 else 0) + n) e
+        → (when (when b then not (heard_of owners rows s.sender s.message).taken else false) then 1 else 0) + count (refused_from q) (outcomes owners (heard_of owners rows s.sender s.message).rows ss)
+        ≡ count was_refused (when b then (hub owners (unhelped owners)).answer (call_of s) rows ∷ answers_of (hub owners (unhelped owners)) q (calls_in ss) ((hub owners (unhelped owners)).after (call_of s) rows) else answers_of (hub owners (unhelped owners)) q (calls_in ss) ((hub owners (unhelped owners)).after (call_of s) rows))
+    go true e = ap (λ (n : ℕ). (when not (heard_of owners rows s.sender s.message).taken then 1 else 0) + n) e
     go false e = zero-add _ ∙ e
 
 -- the sender's own calls are the same, with the others' messages or without
@@ -88,7 +88,7 @@ own-calls owners q [] = refl
 own-calls owners q (s ∷ ss) = go (eqb s.sender q) refl (own-calls owners q ss)
   where
     go : (b : Bool) → eqb s.sender q ≡ b → calls_of (hub owners (unhelped owners)) q (calls_in (own_entries q ss)) ≡ calls_of (hub owners (unhelped owners)) q (calls_in ss)
-        → calls_of (hub owners (unhelped owners)) q (calls_in (if b then s ∷ own_entries q ss else own_entries q ss)) ≡ (if b then call_of s ∷ calls_of (hub owners (unhelped owners)) q (calls_in ss) else calls_of (hub owners (unhelped owners)) q (calls_in ss))
+        → calls_of (hub owners (unhelped owners)) q (calls_in (when b then s ∷ own_entries q ss else own_entries q ss)) ≡ (when b then call_of s ∷ calls_of (hub owners (unhelped owners)) q (calls_in ss) else calls_of (hub owners (unhelped owners)) q (calls_in ss))
     go true p e = rw p (ap (λ (l : List Call). call_of s ∷ l) e)
     go false p e = e
 
@@ -112,7 +112,7 @@ unfolding busy_of_lem
 busy-alike owners s t q c zero h = refl
 busy-alike owners s t q c (suc n) h = go (eqb (octet owners c) q) refl (busy-alike owners s t q (suc c) n h)
   where
-    go : (b : Bool) → eqb (octet owners c) q ≡ b → busy_of_lem owners s q (suc c) n ≡ busy_of_lem owners t q (suc c) n → (if b then busy_at_lem s c else 0) + busy_of_lem owners s q (suc c) n ≡ (if b then busy_at_lem t c else 0) + busy_of_lem owners t q (suc c) n
+    go : (b : Bool) → eqb (octet owners c) q ≡ b → busy_of_lem owners s q (suc c) n ≡ busy_of_lem owners t q (suc c) n → (when b then busy_at_lem s c else 0) + busy_of_lem owners s q (suc c) n ≡ (when b then busy_at_lem t c else 0) + busy_of_lem owners t q (suc c) n
     go true p e = let r : busy_at_lem s c ≡ busy_at_lem t c = ap (λ (x : ℕ). busy_at_lem (x ∷ []) 0) (h c (eqb-true _ _ p)) in λ i. r i + e i
     go false p e = ap (λ (x : ℕ). 0 + x) e
 
@@ -134,7 +134,7 @@ unfolding own_entries
 own-fewer q [] = omega arith
 own-fewer q (s ∷ ss) = go (eqb s.sender q) (own-fewer q ss)
   where
-    go : (b : Bool) → length (own_entries q ss) ≤ length ss → length (if b then s ∷ own_entries q ss else own_entries q ss) ≤ suc (length ss)
+    go : (b : Bool) → length (own_entries q ss) ≤ length ss → length (when b then s ∷ own_entries q ss else own_entries q ss) ≤ suc (length ss)
     go true h = omega arith
     go false h = omega arith
 
@@ -143,7 +143,7 @@ unfolding own_entries
 own-all q [] g = tt
 own-all q (s ∷ ss) g = go (eqb s.sender q) (own-all q ss g.1)
   where
-    go : (b : Bool) → AllEntries (own_entries q ss) → AllEntries (if b then s ∷ own_entries q ss else own_entries q ss)
+    go : (b : Bool) → AllEntries (own_entries q ss) → AllEntries (when b then s ∷ own_entries q ss else own_entries q ss)
     go true h = (g.0, h)
     go false h = h
 
@@ -166,7 +166,7 @@ empty-refused : (owners : List ℕ) (rows : Rows) (sender : ℕ) → heard_of ow
 unfolding heard_of act_of grant_of ask_of read_of parts_of
 empty-refused owners rows sender = go (sized (tables rows owners (unhelped owners)))
   where
-    go : (b : Bool) → heard_by (carried_out (tables rows owners (unhelped owners)) [] (replicate 268 0) (if b then (ask_of [] then allowed_of (tables rows owners (unhelped owners)) sender [] (length {A = ℕ} (replicate 268 0))) else refused 16 0)) ≡ heard_as rows false
+    go : (b : Bool) → heard_by (carried_out (tables rows owners (unhelped owners)) [] (replicate 268 0) (when b then (ask_of [] then allowed_of (tables rows owners (unhelped owners)) sender [] (length {A = ℕ} (replicate 268 0))) else refused 16 0)) ≡ heard_as rows false
     go true = refl
     go false = refl
 
@@ -184,7 +184,7 @@ unfolding own_entries rows_at_end
 nobody-rows owners [] rows = refl
 nobody-rows owners (s ∷ ss) rows = go (eqb s.sender 0) refl (nobody-rows owners ss rows)
   where
-    go : (b : Bool) → eqb s.sender 0 ≡ b → rows_at_end owners rows (own_entries 0 ss) ≡ rows → rows_at_end owners rows (if b then s ∷ own_entries 0 ss else own_entries 0 ss) ≡ rows
+    go : (b : Bool) → eqb s.sender 0 ≡ b → rows_at_end owners rows (own_entries 0 ss) ≡ rows → rows_at_end owners rows (when b then s ∷ own_entries 0 ss else own_entries 0 ss) ≡ rows
     go true p e = ap (λ (h : Heard). rows_at_end owners h.rows (own_entries 0 ss)) (zero-refused owners rows s (inl (eqb-true _ _ p))) ∙ e
     go false p e = e
 
@@ -193,9 +193,9 @@ unfolding own_entries count outcomes
 nobody-accepted owners [] rows = refl
 nobody-accepted owners (s ∷ ss) rows = go (eqb s.sender 0) refl (nobody-accepted owners ss rows)
   where
-    go : (b : Bool) → eqb s.sender 0 ≡ b → count (accepted_from 0) (outcomes owners rows (own_entries 0 ss)) ≡ 0 → count (accepted_from 0) (outcomes owners rows (if b then s ∷ own_entries 0 ss else own_entries 0 ss)) ≡ 0
+    go : (b : Bool) → eqb s.sender 0 ≡ b → count (accepted_from 0) (outcomes owners rows (own_entries 0 ss)) ≡ 0 → count (accepted_from 0) (outcomes owners rows (when b then s ∷ own_entries 0 ss else own_entries 0 ss)) ≡ 0
     go true p e =
-        ap (λ (h : Heard). (if (if eqb s.sender 0 then h.taken else false) then 1 else 0) + count (accepted_from 0) (outcomes owners h.rows (own_entries 0 ss))) (zero-refused owners rows s (inl (eqb-true _ _ p)))
+        ap (λ (h : Heard). (when (when eqb s.sender 0 then h.taken else false) then 1 else 0) + count (accepted_from 0) (outcomes owners h.rows (own_entries 0 ss))) (zero-refused owners rows s (inl (eqb-true _ _ p)))
         ∙ rw p (omega (arith, e))
     go false p e = e
 
@@ -219,7 +219,7 @@ unfolding own_entries count
 silent-own q [] z = refl
 silent-own q (s ∷ ss) z = go (eqb s.sender q) (λ n. silent-own q ss n) z
   where
-    go : (b : Bool) → (count (comes_from q) ss ≡ 0 → own_entries q ss ≡ []) → (if b then 1 else 0) + count (comes_from q) ss ≡ 0 → (if b then s ∷ own_entries q ss else own_entries q ss) ≡ []
+    go : (b : Bool) → (count (comes_from q) ss ≡ 0 → own_entries q ss ≡ []) → (when b then 1 else 0) + count (comes_from q) ss ≡ 0 → (when b then s ∷ own_entries q ss else own_entries q ss) ≡ []
     go true ih n = absurd (omega arith)
     go false ih n = ih (omega arith)
 

@@ -9,7 +9,7 @@ use borrow.Author.Tests.{ltb-false, eqb-true, eqb-false}
 use lib.Dec.{ltb, eqb}
 use lib.ListN.{length}
 use Rattle.octets.specs.Octet.{AllOctets}
-use Rattle.octets.specs.Choice.{if◌then◌else◌}
+use Rattle.octets.specs.Choice.{when◌then◌else◌}
 use Rattle.book.specs.declared.Await.{Await}
 use Rattle.book.specs.declared.Await.TheVariants.{SpanCount, Span, MessageCount, Head, Body, Done, Bad}
 use Rattle.book.specs.Book.{Span as Owned, Recorded, Book, word, span_octets, head_octets, spans_octets, entries_octets, book_octets, GoodSpan, Ascending, GoodEntry, AllEntries, Good}
@@ -55,7 +55,7 @@ whole_back : (a : Await) (xs : List ℕ) (t : Day) → (a ≡ Done → ⊥) → 
 whole_back a xs t n e = ⊎_elim (λ h. absurd (short-never a xs t h n e)) (λ p. p) (split (want_of a) xs)
 
 -- the test of a choice of machines, one of which never ends
-not-bad : (b : Bool) (m : Machine) (xs : List ℕ) (t : Day) → Ends (if b then machine Bad [] t else m) xs → (b ≡ false) × Ends m xs
+not-bad : (b : Bool) (m : Machine) (xs : List ℕ) (t : Day) → Ends (when b then machine Bad [] t else m) xs → (b ≡ false) × Ends m xs
 not-bad true m xs t e = absurd (bad-never xs t e)
 not-bad false m xs t e = (refl, e)
 
@@ -121,11 +121,11 @@ body_back left sender n rest t h l o e z =
 -- a head, and its octets if there are any
 head-back : (left sender n : ℕ) (rest : List ℕ) (t : Day) → sender ≤ 255 → AllOctets rest → Ends (head_come left sender n t) rest → EntryBack left ((sender ∷ word n) ++ rest) t
 head-back left sender n rest t h o e =
-    let b = not-bad (ltb 268 n) (if eqb n 0 then machine (entries_await_lem (left - 1)) [] (heard_in_lem sender [] t) else machine (Body left sender n) [] t) rest t e in
+    let b = not-bad (ltb 268 n) (when eqb n 0 then machine (entries_await_lem (left - 1)) [] (heard_in_lem sender [] t) else machine (Body left sender n) [] t) rest t e in
     let l = ltb-false 268 n b.0 in
     go (eqb n 0) refl l b.1
   where
-    go : (c : Bool) → eqb n 0 ≡ c → n ≤ 268 → Ends (if c then machine (entries_await_lem (left - 1)) [] (heard_in_lem sender [] t) else machine (Body left sender n) [] t) rest → EntryBack left ((sender ∷ word n) ++ rest) t
+    go : (c : Bool) → eqb n 0 ≡ c → n ≤ 268 → Ends (when c then machine (entries_await_lem (left - 1)) [] (heard_in_lem sender [] t) else machine (Body left sender n) [] t) rest → EntryBack left ((sender ∷ word n) ++ rest) t
     go true p l f = record {
       entry = record { sender = sender; message = [] };
       rest = rest;

@@ -10,7 +10,7 @@ use lib.Dec.{eqb}
 use lib.ListN.{length, length-set, length-replicate}
 use lib.Seq.{get_or-set_same, get_or-set_other}
 use Rattle.octets.specs.Octet.{octet}
-use Rattle.octets.specs.Choice.{if◌then◌else◌}
+use Rattle.octets.specs.Choice.{when◌then◌else◌}
 use Rattle.octets.proofs.Choice.{decided}
 use Rattle.book.specs.Book.{Recorded, AllEntries}
 use Rattle.day.specs.Hub.{Rows, Heard, heard_of}
@@ -21,7 +21,7 @@ use Rattle.octets.proofs.Octet.{zero-at}
 
 -- 1 where it holds
 abbrev pub one : Bool → ℕ
-one b = if b then 1 else 0
+one b = when b then 1 else 0
 
 -- a counter that has room counts one more, and no other changes
 pub counted-at : (l : List ℕ) (s q : ℕ) → s < length l → octet l q < 65535 → octet (one_more_lem l s) q ≡ octet l q + one (eqb s q)
@@ -51,11 +51,11 @@ pub record Replays (ss : List Recorded) (t u : Day) (q : ℕ) : Type 0 where
   pub accepted : octet u.accepted q ≡ octet t.accepted q + count (accepted_from q) (outcomes t.owners t.rows ss)
   pub refused : octet u.refused q ≡ octet t.refused q + count (refused_from q) (outcomes t.owners t.rows ss)
 
-taken-one : (c : Bool) → one (if c then true else false) ≡ one c
+taken-one : (c : Bool) → one (when c then true else false) ≡ one c
 taken-one true = refl
 taken-one false = refl
 
-taken_none : (c : Bool) → one (if c then false else false) ≡ 0
+taken_none : (c : Bool) → one (when c then false else false) ≡ 0
 taken_none true = refl
 taken_none false = refl
 
@@ -65,8 +65,8 @@ module _ (s : Recorded) (ss : List Recorded) (t : Day) (q : ℕ) (h : Heard) whe
   Next b u =
       (u.owners ≡ t.owners)
       × (u.rows ≡ rows_at_end t.owners h.rows ss)
-      × (octet u.accepted q ≡ octet t.accepted q + (one (if eqb s.sender q then b else false) + count (accepted_from q) (outcomes t.owners h.rows ss)))
-      × (octet u.refused q ≡ octet t.refused q + (one (if eqb s.sender q then not b else false) + count (refused_from q) (outcomes t.owners h.rows ss)))
+      × (octet u.accepted q ≡ octet t.accepted q + (one (when eqb s.sender q then b else false) + count (accepted_from q) (outcomes t.owners h.rows ss)))
+      × (octet u.refused q ≡ octet t.refused q + (one (when eqb s.sender q then not b else false) + count (refused_from q) (outcomes t.owners h.rows ss)))
 
   next : (b : Bool) → s.sender ≤ 255 → Room t q (suc (length ss)) → ((u : Day) → Room u q (length ss) → Replays ss u (heard_all ss u) q) → Next b (heard_all ss (counted_if b s.sender h t))
   next true l r ih =
@@ -93,7 +93,7 @@ replays (s ∷ ss) t q g r =
     record { owners = x.0; rows = x.1; accepted = x.2; refused = x.3 }
 
 -- accepted and refused are all
-both : (c b : Bool) → one (if c then b else false) + one (if c then not b else false) ≡ one c
+both : (c b : Bool) → one (when c then b else false) + one (when c then not b else false) ≡ one c
 both true true = refl
 both true false = refl
 both false b = refl

@@ -7,7 +7,7 @@ use mathlib.Core.Logic.{◌↔◌}
 use native.Mathlib.Omega.{arith}
 use lib.Dec.{ltb, eqb}
 use Rattle.octets.specs.Octet.{octet, AllOctets}
-use Rattle.octets.specs.Choice.{if◌then◌else◌}
+use Rattle.octets.specs.Choice.{when◌then◌else◌}
 use Rattle.printing.specs.Shown.{decimal_in, decimal_of}
 use Rattle.book.specs.Book.{Book, book_octets, Good}
 use Rattle.book.specs.Faults.{Faulty}
@@ -26,12 +26,12 @@ digit-first : (k n : ℕ) (rest : List ℕ) → octet (decimal_in (suc k) n ++ r
 unfolding decimal_in
 digit-first zero n rest = go (ltb 9 n)
   where
-    go : (b : Bool) → octet (((if b then [] else []) ++ ((48 + n % 10) ∷ [])) ++ rest) 0 < 58
+    go : (b : Bool) → octet (((when b then [] else []) ++ ((48 + n % 10) ∷ [])) ++ rest) 0 < 58
     go true = omega arith
     go false = omega arith
 digit-first (suc k) n rest = go (ltb 9 n) (digit-first k (n / 10) (((48 + n % 10) ∷ []) ++ rest))
   where
-    go : (b : Bool) → octet (decimal_in (suc k) (n / 10) ++ (((48 + n % 10) ∷ []) ++ rest)) 0 < 58 → octet (((if b then decimal_in (suc k) (n / 10) else []) ++ ((48 + n % 10) ∷ [])) ++ rest) 0 < 58
+    go : (b : Bool) → octet (decimal_in (suc k) (n / 10) ++ (((48 + n % 10) ∷ []) ++ rest)) 0 < 58 → octet (((when b then decimal_in (suc k) (n / 10) else []) ++ ((48 + n % 10) ∷ [])) ++ rest) 0 < 58
     go true h = let e : octet ((decimal_in (suc k) (n / 10) ++ ((48 + n % 10) ∷ [])) ++ rest) 0 ≡ octet (decimal_in (suc k) (n / 10) ++ (((48 + n % 10) ∷ []) ++ rest)) 0 = ap (λ (l : List ℕ). octet l 0) (append_assoc (decimal_in (suc k) (n / 10)) ((48 + n % 10) ∷ []) rest) in omega (arith, e, h)
     go false h = omega arith
 
@@ -41,7 +41,7 @@ unfolding lines_from
 lines-first f q zero rest = omega arith
 lines-first f q (suc n) rest = go (eqb (f q).messages 0) (lines-first f (suc q) n rest)
   where
-    go : (b : Bool) → octet (lines_from f (suc q) n ++ (97 ∷ rest)) 0 < 114 → octet (((if b then [] else decimal_of q ++ four_numbers (f q)) ++ lines_from f (suc q) n) ++ (97 ∷ rest)) 0 < 114
+    go : (b : Bool) → octet (lines_from f (suc q) n ++ (97 ∷ rest)) 0 < 114 → octet (((when b then [] else decimal_of q ++ four_numbers (f q)) ++ lines_from f (suc q) n) ++ (97 ∷ rest)) 0 < 114
     go true h = h
     go false h =
         let e : octet (((decimal_of q ++ four_numbers (f q)) ++ lines_from f (suc q) n) ++ (97 ∷ rest)) 0 ≡ octet (decimal_of q ++ (four_numbers (f q) ++ (lines_from f (suc q) n ++ (97 ∷ rest)))) 0 =

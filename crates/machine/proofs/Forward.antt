@@ -7,7 +7,7 @@ use mathlib.Core.List.{List, [], ◌∷◌, ◌++◌, append_assoc, append-nil}
 use native.Mathlib.Omega.{arith}
 use borrow.Author.Tests.{le-ltb, ne_eqb}
 use lib.ListN.{length}
-use Rattle.octets.specs.Choice.{if◌then◌else◌}
+use Rattle.octets.specs.Choice.{when◌then◌else◌}
 use Rattle.book.specs.declared.Await.{Await}
 use Rattle.book.specs.declared.Await.TheVariants.{SpanCount, Span, MessageCount, Head, Body, Done, Bad}
 use Rattle.book.specs.Book.{Span as Owned, Recorded, Book, word, span_octets, head_octets, spans_octets, entries_octets, book_octets, Ascending, AllEntries, Good}
@@ -44,7 +44,7 @@ feed-spans (s ∷ ss) next rest t g =
     ap (λ (a : Await). feed_of (machine a [] t) (span_octets s ++ spans_octets ss ++ rest)) (spans-more (length ss) next)
     ∙ ap (feed_of (machine (Span (suc (length ss)) next) [] t)) (append_assoc (span_octets s) (spans_octets ss) rest)
     ∙ feed-span (suc (length ss)) next s (spans_octets ss ++ rest) t
-    ∙ ap (λ (b : Bool). feed_of (if b then machine Bad [] t else machine (spans_await_lem (suc (length ss) - 1) (s.last + 1)) [] (owned s.first s.last s.sender t)) (spans_octets ss ++ rest)) (span-good next s g.0)
+    ∙ ap (λ (b : Bool). feed_of (when b then machine Bad [] t else machine (spans_await_lem (suc (length ss) - 1) (s.last + 1)) [] (owned s.first s.last s.sender t)) (spans_octets ss ++ rest)) (span-good next s g.0)
     ∙ (let e : suc (length ss) - 1 ≡ length ss = omega arith in ap (λ (k : ℕ). feed_of (machine (spans_await_lem k (s.last + 1)) [] (owned s.first s.last s.sender t)) (spans_octets ss ++ rest)) e)
     ∙ feed-spans ss (s.last + 1) rest (owned s.first s.last s.sender t) g.1
 

@@ -11,7 +11,7 @@ use lib.Dec.{ltb, eqb}
 use lib.ListN.{length, take, set, length-set, length-append, length-replicate}
 use lib.Seq.{length-take-le, take_all, take-suc-set}
 use Rattle.octets.specs.Octet.{octet}
-use Rattle.octets.specs.Choice.{if◌then◌else◌}
+use Rattle.octets.specs.Choice.{when◌then◌else◌}
 use Rattle.octets.proofs.Applied.{length-applied}
 use Rattle.book.specs.declared.Await.{Await}
 use Rattle.book.specs.declared.Await.TheVariants.{SpanCount, Span, MessageCount, Head, Body, Done, Bad}
@@ -32,14 +32,14 @@ Next t m = (m.got ≡ []) × Kept t m.day
 span-next : (left next first last sender : ℕ) (t : Day) → Next t (span_come left next first last sender t)
 span-next left next first last sender t = go (bad_span_lem next first last sender)
   where
-    go : (b : Bool) → Next t (if b then machine Bad [] t else machine (spans_await_lem (left - 1) (last + 1)) [] (owned first last sender t))
+    go : (b : Bool) → Next t (when b then machine Bad [] t else machine (spans_await_lem (left - 1) (last + 1)) [] (owned first last sender t))
     go true = (refl, kept-all t)
     go false = (refl, record { owners = length-applied (λ place old. sender) first (last + 1 - first) t.owners; rows = refl; accepted = refl; refused = refl })
 
 head-next : (left sender size : ℕ) (t : Day) → Next t (head_come left sender size t)
 head-next left sender size t = go (ltb 268 size) (eqb size 0)
   where
-    go : (b c : Bool) → Next t (if b then machine Bad [] t else (if c then machine (entries_await_lem (left - 1)) [] (heard_in_lem sender [] t) else machine (Body left sender size) [] t))
+    go : (b c : Bool) → Next t (when b then machine Bad [] t else (when c then machine (entries_await_lem (left - 1)) [] (heard_in_lem sender [] t) else machine (Body left sender size) [] t))
     go true c = (refl, kept-all t)
     go false true = (refl, heard-kept sender [] t)
     go false false = (refl, kept-all t)
@@ -157,7 +157,7 @@ pub data InChunks : Place → List ℕ → Day → List ℕ → Type 0 where
 run_is : {p : Place} {buffer : List ℕ} {t : Day} {xs : List ℕ} → InChunks p buffer t xs → (machine_of p buffer t ≡ feed_of start xs) × (268 ≤ length buffer)
 unfolding feed_of
 run_is (begun {p} {buffer} {u} t e h q z) =
-    ((λ i. machine p.awaits (take (z i) buffer) u) ∙ q ∙ ap (λ (b : Bool). if b then start else machine Bad [] t) e, h)
+    ((λ i. machine p.awaits (take (z i) buffer) u) ∙ q ∙ ap (λ (b : Bool). when b then start else machine Bad [] t) e, h)
 run_is (fed_more {p} {r} {buffer} {after} {t} {u} {xs} chunk x q) =
     let y = run_is x in
     let m = machine_of p buffer t in
@@ -179,4 +179,4 @@ pub run-reports : {p : Place} {buffer : List ℕ} {t : Day} {xs : List ℕ} → 
 run-reports {p} {buffer} {t} {xs} x =
     let y = run_is x in
     let f : Fine (machine_of p buffer t) = subst Fine (sym y.0) (feed-fine start xs start_fine) in
-    (λ i. if f.sizes i then text_of p.awaits t else no_book) ∙ ap text y.0
+    (λ i. when f.sizes i then text_of p.awaits t else no_book) ∙ ap text y.0

@@ -7,7 +7,7 @@ use native.Mathlib.Omega.{arith}
 use lib.Dec.{eqb}
 use lib.ListN.{set, replicate}
 use Rattle.octets.specs.Octet.{octet, AllOctets}
-use Rattle.octets.specs.Choice.{if◌then◌else◌}
+use Rattle.octets.specs.Choice.{when◌then◌else◌}
 use Rattle.layout.specs.Container.{variable_slot_lem, optional_slot_lem, container_of, parts_of}
 use Rattle.parts.specs.Overlap.{shares_of, judged, held}
 use Rattle.isup.specs.Table.{shape_of}
@@ -85,16 +85,16 @@ none-busy owners rows q c zero h = refl
 none-busy owners rows q c (suc n) h =
     go (eqb (octet owners c) q) (none-busy owners rows q (suc c) n h)
   where
-    go : (b : Bool) → busy_of_lem owners rows q (suc c) n ≡ 0 → (if b then busy_at_lem rows c else 0) + busy_of_lem owners rows q (suc c) n ≡ 0
+    go : (b : Bool) → busy_of_lem owners rows q (suc c) n ≡ 0 → (when b then busy_at_lem rows c else 0) + busy_of_lem owners rows q (suc c) n ≡ 0
     go true e = omega (arith, h c)
     go false e = omega arith
 
 abbrev sample_tally : ℕ → Tally
-sample_tally q = tally (one (eqb 7 q) + 0) (one (if eqb 7 q then true else false) + 0) (one (if eqb 7 q then false else false) + 0) 0
+sample_tally q = tally (one (eqb 7 q) + 0) (one (when eqb 7 q then true else false) + 0) (one (when eqb 7 q then false else false) + 0) 0
 
 sample-tally : (q : ℕ) → tally_of sample_book q ≡ sample_tally q
 unfolding count outcomes rows_at_end
-sample-tally q = λ i. tally (one (eqb 7 q) + 0) (one (if eqb 7 q then (sample-heard i).taken else false) + 0) (one (if eqb 7 q then not (sample-heard i).taken else false) + 0) (sample-busy i)
+sample-tally q = λ i. tally (one (eqb 7 q) + 0) (one (when eqb 7 q then (sample-heard i).taken else false) + 0) (one (when eqb 7 q then not (sample-heard i).taken else false) + 0) (sample-busy i)
   where
     sample-busy : busy_of_lem (owners_of sample_book) (heard_of (owners_of sample_book) at_first_lem 7 (0x02 ∷ 0x00 ∷ 0x13 ∷ [])).rows q 0 4096 ≡ 0
     sample-busy = ap (λ (h : Heard). busy_of_lem (owners_of sample_book) h.rows q 0 4096) sample-heard ∙ none-busy (owners_of sample_book) rows_then q 0 4096 rows-even

@@ -11,7 +11,7 @@ use lib.Dec.{ltb, leb, eqb}
 use lib.ListN.{length, take, drop, set, drop_of_length-le}
 use lib.Seq.{get_or-take, take-suc-set, length-take-le, drop-cons}
 use Rattle.octets.specs.Octet.{octet}
-use Rattle.octets.specs.Choice.{if◌then◌else◌}
+use Rattle.octets.specs.Choice.{when◌then◌else◌}
 use Rattle.hub.specs.Acts.{after}
 use Rattle.book.specs.declared.Await.{Await}
 use Rattle.book.specs.declared.Await.TheVariants.{SpanCount, Span, MessageCount, Head, Body, Done, Bad}
@@ -24,18 +24,18 @@ use Rattle.machine.proofs.Feeding.{step-over, step-more, step-last}
 
 -- ---- a span
 pub span-refused : (left next first last sender : ℕ) (owners : List ℕ) → bad_span_lem next first last sender ≡ true → spanned Bad owners ≡ spanned_of left next first last sender owners
-span-refused left next first last sender owners e = ap (λ (b : Bool). if b then spanned Bad owners else spanned (spans_await_lem (left - 1) (last + 1)) (spread owners first last sender)) (sym e)
+span-refused left next first last sender owners e = ap (λ (b : Bool). when b then spanned Bad owners else spanned (spans_await_lem (left - 1) (last + 1)) (spread owners first last sender)) (sym e)
 
 pub span-owned : (left next first last sender : ℕ) (owners : List ℕ) {r : Await} {k : ℕ} {after : List ℕ} → bad_span_lem next first last sender ≡ false → k ≡ left - 1 → r ≡ spans_await_lem k (last + 1) → after ≡ spread owners first last sender → spanned r after ≡ spanned_of left next first last sender owners
 span-owned left next first last sender owners e p q a =
     (λ i. spanned ((q ∙ ap (λ (k : ℕ). spans_await_lem k (last + 1)) p) i) (a i))
-    ∙ ap (λ (b : Bool). if b then spanned Bad owners else spanned (spans_await_lem (left - 1) (last + 1)) (spread owners first last sender)) (sym e)
+    ∙ ap (λ (b : Bool). when b then spanned Bad owners else spanned (spans_await_lem (left - 1) (last + 1)) (spread owners first last sender)) (sym e)
 
 span-machine : (left next first last sender : ℕ) (t : Day) {r : Await} {after : List ℕ} → spanned r after ≡ spanned_of left next first last sender t.owners → machine r [] (day after t.rows t.accepted t.refused) ≡ span_come left next first last sender t
 span-machine left next first last sender t {r} {after} e =
     ap (λ (s : Spanned). machine s.awaits [] (day s.owners t.rows t.accepted t.refused)) e ∙ go (bad_span_lem next first last sender)
   where
-    go : (b : Bool) → (let s = if b then spanned Bad t.owners else spanned (spans_await_lem (left - 1) (last + 1)) (spread t.owners first last sender) in machine s.awaits [] (day s.owners t.rows t.accepted t.refused)) ≡ (if b then machine Bad [] t else machine (spans_await_lem (left - 1) (last + 1)) [] (day (spread t.owners first last sender) t.rows t.accepted t.refused))
+    go : (b : Bool) → (let s = when b then spanned Bad t.owners else spanned (spans_await_lem (left - 1) (last + 1)) (spread t.owners first last sender) in machine s.awaits [] (day s.owners t.rows t.accepted t.refused)) ≡ (when b then machine Bad [] t else machine (spans_await_lem (left - 1) (last + 1)) [] (day (spread t.owners first last sender) t.rows t.accepted t.refused))
     go true = refl
     go false = refl
 
@@ -92,28 +92,28 @@ module _ (buffer : List ℕ) (t : Day) where
 spans-low : (n next : ℕ) → want_of (spans_await_lem n next) ≤ 268
 spans-low n next = go (eqb n 0)
   where
-    go : (b : Bool) → want_of (if b then MessageCount else Span n next) ≤ 268
+    go : (b : Bool) → want_of (when b then MessageCount else Span n next) ≤ 268
     go true = omega arith
     go false = omega arith
 
 entries-low : (n : ℕ) → want_of (entries_await_lem n) ≤ 268
 entries-low n = go (eqb n 0)
   where
-    go : (b : Bool) → want_of (if b then Done else Head n) ≤ 268
+    go : (b : Bool) → want_of (when b then Done else Head n) ≤ 268
     go true = omega arith
     go false = omega arith
 
 span-low : (left next first last sender : ℕ) (t : Day) → want_of (span_come left next first last sender t).awaits ≤ 268
 span-low left next first last sender t = go (bad_span_lem next first last sender)
   where
-    go : (b : Bool) → want_of (if b then machine Bad [] t else machine (spans_await_lem (left - 1) (last + 1)) [] (day (spread t.owners first last sender) t.rows t.accepted t.refused)).awaits ≤ 268
+    go : (b : Bool) → want_of (when b then machine Bad [] t else machine (spans_await_lem (left - 1) (last + 1)) [] (day (spread t.owners first last sender) t.rows t.accepted t.refused)).awaits ≤ 268
     go true = omega arith
     go false = spans-low (left - 1) (last + 1)
 
 head-low : (left sender size : ℕ) (t : Day) → want_of (head_come left sender size t).awaits ≤ 268
 head-low left sender size t = go (ltb 268 size) refl (eqb size 0)
   where
-    go : (b : Bool) → ltb 268 size ≡ b → (c : Bool) → want_of (if b then machine Bad [] t else (if c then machine (entries_await_lem (left - 1)) [] (heard_in_lem sender [] t) else machine (Body left sender size) [] t)).awaits ≤ 268
+    go : (b : Bool) → ltb 268 size ≡ b → (c : Bool) → want_of (when b then machine Bad [] t else (when c then machine (entries_await_lem (left - 1)) [] (heard_in_lem sender [] t) else machine (Body left sender size) [] t)).awaits ≤ 268
     go true e c = omega arith
     go false e true = entries-low (left - 1)
     go false e false = ltb-false 268 size e
@@ -172,7 +172,7 @@ fits-by p space e = ap (λ (n : ℕ). fits_by p.held n space) e
 pub fits-ready : (p : Place) (space : ℕ) → fits p space ≡ true → Ready p space
 fits-ready p space e = go (eqb (want_of p.awaits) 0) refl (ltb p.held (want_of p.awaits)) refl (ltb 268 (want_of p.awaits)) refl e
   where
-    go : (x : Bool) → eqb (want_of p.awaits) 0 ≡ x → (y : Bool) → ltb p.held (want_of p.awaits) ≡ y → (z : Bool) → ltb 268 (want_of p.awaits) ≡ z → (if x then eqb p.held 0 else (if y then (if z then false else leb 268 space) else false)) ≡ true → Ready p space
+    go : (x : Bool) → eqb (want_of p.awaits) 0 ≡ x → (y : Bool) → ltb p.held (want_of p.awaits) ≡ y → (z : Bool) → ltb 268 (want_of p.awaits) ≡ z → (when x then eqb p.held 0 else (when y then (when z then false else leb 268 space) else false)) ≡ true → Ready p space
     go true a y b z f h = let w = eqb-true (want_of p.awaits) 0 a in record { low = omega arith; less = λ n. absurd (n w); room = λ n. absurd (n w); none = λ n. eqb-true p.held 0 h }
     go false a false b z f h = absurd (let n : ◌≡◌ {A = ℕ} 0 1 = cc in omega arith)
     go false a true b true f h = absurd (let n : ◌≡◌ {A = ℕ} 0 1 = cc in omega arith)
@@ -205,10 +205,10 @@ ready_held {p} {space} r = go (dec_lt 0 (want_of p.awaits))
 
 -- ---- a chunk
 pub feed-unsized : (p : Place) (buffer : List ℕ) (t : Day) (chunk : List ℕ) → day_sized t ≡ false → fed nowhere buffer t ≡ fed_of p buffer t chunk
-feed-unsized p buffer t chunk e = ap (λ (b : Bool). if b then (if fits p (length buffer) then taken_in (machine_of p buffer t) buffer chunk else fed nowhere buffer t) else fed nowhere buffer t) (sym e)
+feed-unsized p buffer t chunk e = ap (λ (b : Bool). when b then (when fits p (length buffer) then taken_in (machine_of p buffer t) buffer chunk else fed nowhere buffer t) else fed nowhere buffer t) (sym e)
 
-fed-sized : (p : Place) (buffer : List ℕ) (t : Day) (chunk : List ℕ) (f : Bool) → day_sized t ≡ true → fits p (length buffer) ≡ f → (if f then taken_in (machine_of p buffer t) buffer chunk else fed nowhere buffer t) ≡ fed_of p buffer t chunk
-fed-sized p buffer t chunk f e g = λ i. if sym e i then (if sym g i then taken_in (machine_of p buffer t) buffer chunk else fed nowhere buffer t) else fed nowhere buffer t
+fed-sized : (p : Place) (buffer : List ℕ) (t : Day) (chunk : List ℕ) (f : Bool) → day_sized t ≡ true → fits p (length buffer) ≡ f → (when f then taken_in (machine_of p buffer t) buffer chunk else fed nowhere buffer t) ≡ fed_of p buffer t chunk
+fed-sized p buffer t chunk f e g = λ i. when sym e i then (when sym g i then taken_in (machine_of p buffer t) buffer chunk else fed nowhere buffer t) else fed nowhere buffer t
 
 pub feed-unfit : (p : Place) (buffer : List ℕ) (t : Day) (chunk : List ℕ) → day_sized t ≡ true → fits p (length buffer) ≡ false → fed nowhere buffer t ≡ fed_of p buffer t chunk
 feed-unfit p buffer t chunk = fed-sized p buffer t chunk false

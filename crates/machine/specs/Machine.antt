@@ -2,7 +2,7 @@
 -- it, and the tables so far.
 use Rattle.std.specs.Prelude.{ℕ, ◌+◌, ◌≤◌, ◌-◌, ◌<◌, List, [], ◌∷◌, ◌++◌, length, take, set, Bool, false, eqb, ltb, leb, ◌≡◌}
 use Rattle.octets.specs.Octet.{octet}
-use Rattle.octets.specs.Choice.{if◌then◌else◌}
+use Rattle.octets.specs.Choice.{when◌then◌else◌}
 use Rattle.book.specs.declared.Await.{Await}
 use Rattle.book.specs.declared.Await.TheVariants.{SpanCount, Span, MessageCount, Head, Body, Done, Bad}
 use Rattle.book.specs.declared.Place.{Place}
@@ -28,20 +28,20 @@ spanned a owners = record { awaits = a; owners = owners }
 -- are the sender's, and the next is awaited
 abbrev pub spanned_of : ℕ → ℕ → ℕ → ℕ → ℕ → List ℕ → Spanned
 spanned_of left next first last sender owners =
-    if bad_span_lem next first last sender then spanned Bad owners
+    when bad_span_lem next first last sender then spanned Bad owners
     else spanned (spans_await_lem (left - 1) (last + 1)) (spread owners first last sender)
 
 -- a span has come
 abbrev pub span_come : ℕ → ℕ → ℕ → ℕ → ℕ → Day → Machine
 span_come left next first last sender t =
-    if bad_span_lem next first last sender then machine Bad [] t
+    when bad_span_lem next first last sender then machine Bad [] t
     else machine (spans_await_lem (left - 1) (last + 1)) [] (owned first last sender t)
 
 -- the head of a message has come; one with no octets has come whole
 abbrev pub head_come : ℕ → ℕ → ℕ → Day → Machine
 head_come left sender size t =
-    if ltb 268 size then machine Bad [] t
-    else (if eqb size 0 then machine (entries_await_lem (left - 1)) [] (heard_in_lem sender [] t) else machine (Body left sender size) [] t)
+    when ltb 268 size then machine Bad [] t
+    else (when eqb size 0 then machine (entries_await_lem (left - 1)) [] (heard_in_lem sender [] t) else machine (Body left sender size) [] t)
 
 -- all that was awaited has come
 unfoldable pub completed : Await → List ℕ → Day → Machine
@@ -56,11 +56,11 @@ completed Bad got t = machine Bad [] t
 
 -- fewer octets than are awaited are kept; as many are complete
 abbrev pub gathered : Await → List ℕ → Day → Machine
-gathered a got t = if ltb (length got) (want_of a) then machine a got t else completed a got t
+gathered a got t = when ltb (length got) (want_of a) then machine a got t else completed a got t
 
 -- one octet more
 unfoldable pub step_of : Machine → ℕ → Machine
-step_of m o = if eqb (want_of m.awaits) 0 then machine Bad [] m.day else gathered m.awaits (m.got ++ (o ∷ [])) m.day
+step_of m o = when eqb (want_of m.awaits) 0 then machine Bad [] m.day else gathered m.awaits (m.got ++ (o ∷ [])) m.day
 
 -- octets one after the other
 unfoldable pub feed_of : Machine → List ℕ → Machine
@@ -75,7 +75,7 @@ machine_of p buffer t = machine p.awaits (take p.held buffer) t
 
 -- the octet goes behind those that have come, where one is awaited
 abbrev pub stored_of : Machine → List ℕ → ℕ → List ℕ
-stored_of m buffer o = if eqb (want_of m.awaits) 0 then buffer else set buffer (length m.got) o
+stored_of m buffer o = when eqb (want_of m.awaits) 0 then buffer else set buffer (length m.got) o
 
 -- the buffer after octets one after the other
 unfoldable pub buffer_after : Machine → List ℕ → List ℕ → List ℕ
@@ -94,8 +94,8 @@ nowhere = record { awaits = Bad; held = 0 }
 -- awaited, nothing has come
 abbrev pub fits_by : ℕ → ℕ → ℕ → Bool
 fits_by held size room =
-    if eqb size 0 then eqb held 0
-    else (if ltb held size then (if ltb 268 size then false else leb 268 room) else false)
+    when eqb size 0 then eqb held 0
+    else (when ltb held size then (when ltb 268 size then false else leb 268 room) else false)
 
 -- the same of a place
 abbrev pub fits : Place → ℕ → Bool
@@ -120,8 +120,8 @@ taken_in m buffer chunk =
 -- book has: no book, and all else is kept
 abbrev pub fed_of : Place → List ℕ → Day → List ℕ → Fed
 fed_of p buffer t chunk =
-    if day_sized t
-    then (if fits p (length buffer) then taken_in (machine_of p buffer t) buffer chunk
+    when day_sized t
+    then (when fits p (length buffer) then taken_in (machine_of p buffer t) buffer chunk
     else fed nowhere buffer t) else fed nowhere buffer t
 
 -- as `fits` says it, with no test

@@ -1,6 +1,6 @@
 -- The replay of a book by the circuit rules, and its counts. Nothing here says how a book is read.
 use Rattle.std.specs.Prelude.{ℕ, ◌+◌, List, [], ◌∷◌, Bool, false, not, eqb}
-use Rattle.octets.specs.Choice.{if◌then◌else◌}
+use Rattle.octets.specs.Choice.{when◌then◌else◌}
 use Rattle.tallies.specs.declared.Tally.{Tally}
 use Rattle.octets.specs.Applied.{spread}
 use Rattle.book.specs.Book.{Span, Recorded, Book}
@@ -39,7 +39,7 @@ rows_at_end owners rows (s ∷ ss) =
 -- how many of a list pass a test
 unfoldable pub count : {A : Type 0} → (A → Bool) → List A → ℕ
 count test [] = 0
-count test (x ∷ xs) = (if test x then 1 else 0) + count test xs
+count test (x ∷ xs) = (when test x then 1 else 0) + count test xs
 
 -- the message is q's
 abbrev pub comes_from : ℕ → Recorded → Bool
@@ -47,11 +47,11 @@ comes_from q s = eqb s.sender q
 
 -- it is q's, and was accepted
 abbrev pub accepted_from : ℕ → Fate → Bool
-accepted_from q o = if eqb o.sender q then o.taken else false
+accepted_from q o = when eqb o.sender q then o.taken else false
 
 -- it is q's, and was refused
 abbrev pub refused_from : ℕ → Fate → Bool
-refused_from q o = if eqb o.sender q then not o.taken else false
+refused_from q o = when eqb o.sender q then not o.taken else false
 
 -- R63. a sender's four numbers, each its count over the replay
 abbrev pub tally_of : Book → ℕ → Tally
@@ -69,7 +69,7 @@ lines_of b = lines_for (tally_of b)
 -- the messages of one sender, in their order
 unfoldable pub own_entries : ℕ → List Recorded → List Recorded
 own_entries q [] = []
-own_entries q (s ∷ ss) = if eqb s.sender q then s ∷ own_entries q ss else own_entries q ss
+own_entries q (s ∷ ss) = when eqb s.sender q then s ∷ own_entries q ss else own_entries q ss
 
 -- the book with the other senders' messages left out
 abbrev pub own_book : ℕ → Book → Book

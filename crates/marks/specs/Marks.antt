@@ -2,7 +2,7 @@
 -- in each octet; the bits beyond are spare.
 use Rattle.std.specs.Prelude.{ℕ, zero, suc, ◌+◌, ◌*◌, ◌/◌, ◌%◌, ◌^◌, List, ltb}
 use Rattle.octets.specs.Octet.{octet}
-use Rattle.octets.specs.Choice.{if◌then◌else◌}
+use Rattle.octets.specs.Choice.{when◌then◌else◌}
 use Rattle.octets.specs.Sum.{total}
 use Rattle.rows.specs.Rows.{local}
 
@@ -23,12 +23,12 @@ marks_in_lem r status = total (status_bit status) 0 (r + 1)
 -- bits past circuit m+r are spare, 0
 unfoldable pub status_octet_lem : ℕ → List ℕ → ℕ → ℕ
 status_octet_lem range status j =
-    if ltb j (range / 8) then octet status j
+    when ltb j (range / 8) then octet status j
     else cut_to (octet status j) range
 
 -- how many circuits octet j is about: eight, and in the last octet those that are left
 unfoldable pub bits_in_lem : ℕ → ℕ → ℕ
-bits_in_lem range j = if ltb j (range / 8) then 8 else range % 8 + 1
+bits_in_lem range j = when ltb j (range / 8) then 8 else range % 8 + 1
 
 -- a bit for each of n rows from row i of the group on, low bit first: 1 where
 -- the circuit is locally blocked

@@ -1,4 +1,6 @@
 // The status of a group: how many circuits it marks, and the status octets of an answer.
+#![tactic(auto)]
+
 ghost use Rattle.std.specs.Prelude.{◌≡◌, ◌*◌, ◌≤◌, length};
 ghost use Rattle.octets.specs.Sum.{total};
 ghost use Rattle.marks.specs.Marks.{status_bit, cut_to, marks_in_lem, status_octet_lem, bits_in_lem, locked_octet_lem};

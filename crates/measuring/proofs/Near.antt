@@ -6,7 +6,7 @@ use mathlib.Core.Logic.{⊎_elim}
 use native.Mathlib.Omega.{arith}
 use borrow.Author.Tests.{le-ltb, ltb-true, ltb-false}
 use lib.Dec.{ltb}
-use Rattle.octets.specs.Choice.{if◌then◌else◌}
+use Rattle.octets.specs.Choice.{when◌then◌else◌}
 use Rattle.octets.proofs.Choice.{decided}
 use Rattle.layout.specs.declared.Shape.{Shape}
 use Rattle.layout.proofs.Packed.{bit-small}
@@ -15,7 +15,7 @@ use Rattle.measuring.specs.declared.Pointers.{Pointers}
 use Rattle.measuring.specs.Measure.{count_of, gap, beyond_of, too_long_lem, too_far_lem}
 
 -- neither of two holds
-pub neither : (t u : Bool) → (if t then true else u) ≡ false → (t ≡ false) × (u ≡ false)
+pub neither : (t u : Bool) → (when t then true else u) ≡ false → (t ≡ false) × (u ≡ false)
 neither true u h = absurd (let z : ◌≡◌ {A = ℕ} 0 1 = cc in omega arith)
 neither false u h = (refl, h)
 

@@ -1,5 +1,7 @@
 // How long the compact form of a message is, or which number refuses it, for any shape row and any
 // header, from the lengths of its parts.
+#![tactic(auto)]
+
 ghost use Rattle.std.specs.Prelude.{◌≡◌, ◌≤◌};
 ghost use Rattle.measuring.specs.Measure.{lacks_of, unfit_of, count_of, gap, reach, pointers_of_lem, too_long_lem, beyond_of, too_far_lem, run_size_lem, size_of, measure_of};
 ghost use Rattle.measuring.specs.Told.{measured_told};
@@ -11,7 +13,7 @@ const LARGEST: usize = 255;
 
 // How many octets there are of what is to be written, beside the type and the fixed octets that the
 // shape counts: an unused content has none, and the run is without its closing 0.
-#[derive(Drop)]
+#[derive(Clone, Copy)]
 pub struct Lengths {
     pub head: usize,
     pub first: usize,
@@ -22,7 +24,7 @@ pub struct Lengths {
 
 // What the pointers say: to each variable parameter, and to the optional part.
 // One that the shape lacks is not written.
-#[derive(Drop)]
+#[derive(Clone, Copy)]
 pub struct Pointers {
     pub first: usize,
     pub second: usize,
@@ -31,14 +33,14 @@ pub struct Pointers {
 }
 
 // The compact form once it is measured: what its pointers say, and how many octets it has.
-#[derive(Drop)]
+#[derive(Clone, Copy)]
 pub struct Frame {
     pub pointers: Pointers,
     pub size: usize,
 }
 
 // The compact form's frame, or the refusal's number.
-#[derive(Drop)]
+#[derive(Clone, Copy)]
 pub enum Measured {
     Fits(Frame),
     Refused(u8),

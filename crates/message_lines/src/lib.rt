@@ -1,4 +1,6 @@
 // What the desk says of a message.
+#![tactic(auto)]
+
 ghost use Rattle.std.specs.Prelude.{◌≡◌};
 ghost use Rattle.parts.specs.Spans.{part_of};
 ghost use Rattle.isup.specs.Read.{read_of};

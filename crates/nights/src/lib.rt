@@ -2,6 +2,8 @@
 // its like they are one library for C and Rust.
 // They are a crate of their own so that its object has one reader, which the
 // compiler puts where it is called.
+#![tactic(auto)]
+
 ghost use Rattle.std.specs.Prelude.{◌≡◌};
 ghost use Rattle.layout.specs.Container.{bit};
 ghost use Rattle.rights.specs.Tables.{tables};

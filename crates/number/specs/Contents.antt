@@ -1,6 +1,6 @@
 -- The contents of a called party number, octet by octet.
 use Rattle.std.specs.Prelude.{ℕ, ◌+◌, ◌*◌, ◌-◌, ◌/◌, ◌%◌, List, ◌∷◌, eqb, get_or, length, take, drop}
-use Rattle.octets.specs.Choice.{if◌then◌else◌}
+use Rattle.octets.specs.Choice.{when◌then◌else◌}
 use Rattle.number.specs.Halves.{high_half, halves, two_to_an_octet}
 
 -- bit 8 of an octet
@@ -37,7 +37,7 @@ last_half contents = high_half (get_or contents (length contents - 1) 0)
 
 -- an odd count leaves the last half as filler; 0 stands for that of an even count
 abbrev pub filler_in : List ℕ → ℕ
-filler_in contents = if eqb (odd_bit contents) 0 then 0 else last_half contents
+filler_in contents = when eqb (odd_bit contents) 0 then 0 else last_half contents
 
 -- the signals are the halves of the octets after the first two, in order
 unfoldable pub signals_in : List ℕ → List ℕ

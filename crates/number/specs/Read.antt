@@ -1,6 +1,6 @@
 -- What `read_number` answers, and what it leaves in the lent buffer.
 use Rattle.std.specs.Prelude.{ℕ, List, ltb, length}
-use Rattle.octets.specs.Choice.{if◌then◌else◌}
+use Rattle.octets.specs.Choice.{when◌then◌else◌}
 use Rattle.octets.specs.Answer.{Answer, accepted, refused, ◌then◌}
 use Rattle.octets.specs.Filled.{Done, done, room_for}
 use Rattle.number.specs.declared.Number.{Number}
@@ -22,10 +22,10 @@ values_in contents =
 -- filler not 0, more than 30 signals
 abbrev pub number_in : List ℕ → Answer (Number × List ℕ)
 number_in contents =
-    if ltb (length contents) 2 then refused 14 0 else
-    if ltb (half_count contents) (odd_bit contents) then refused 14 0 else
-    if ltb 0 (filler_in contents) then refused 14 0 else
-    if ltb 30 (count_in contents) then refused 14 0 else
+    when ltb (length contents) 2 then refused 14 0 else
+    when ltb (half_count contents) (odd_bit contents) then refused 14 0 else
+    when ltb 0 (filler_in contents) then refused 14 0 else
+    when ltb 30 (count_in contents) then refused 14 0 else
     accepted (values_in contents, signals_in contents)
 
 -- all that reading does: the answer, and the buffer with the signals at its front

@@ -1,11 +1,12 @@
 // A called party number: definitions and theorems alone, and what reading one answers.
+#![tactic(auto)]
 
 // How many signals a number has at the most.
 pub const MOST_SIGNALS: usize = 30;
 
 // What a number has beside its signals: nature of address, numbering plan, internal network bit,
 // and how many signals there are.
-#[derive(Drop)]
+#[derive(Clone, Copy)]
 pub struct Number {
     pub nature: u8,
     pub plan: u8,
@@ -14,7 +15,7 @@ pub struct Number {
 }
 
 // What reading answers: the values, or the number of the refusal.
-#[derive(Drop)]
+#[derive(Clone, Copy)]
 pub enum NumberRead {
     Read(Number),
     Refused(u8),

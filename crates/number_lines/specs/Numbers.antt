@@ -1,6 +1,6 @@
 -- The lines of the requests for called party numbers: number, dial.
 use Rattle.std.specs.Prelude.{ℕ, List, ◌++◌, eqb, take}
-use Rattle.octets.specs.Choice.{if◌then◌else◌}
+use Rattle.octets.specs.Choice.{when◌then◌else◌}
 use Rattle.octets.specs.Answer.{Answer, accepted, refused}
 use Rattle.octets.specs.Filled.{Done}
 use Rattle.number.specs.declared.Number.{Number}
@@ -27,5 +27,5 @@ number_line d = signals_line d.answer d.left
 -- the line of a row of the family, by what its fields say; dial is its last
 unfoldable pub numbers_line_lem : ℕ → List FieldSays → List ℕ
 numbers_line_lem which gs =
-    if eqb which NUMBER then number_line (read_number_of (octets_at gs 0) (lent (number_at gs 1)))
+    when eqb which NUMBER then number_line (read_number_of (octets_at gs 0) (lent (number_at gs 1)))
     else octets_line (write_number_of (number_at gs 0) (number_at gs 1) (number_at gs 2) (octets_at gs 3) (lent (number_at gs 4)))

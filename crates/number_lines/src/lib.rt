@@ -1,4 +1,6 @@
 // What the desk answers to the requests for called party numbers: number, dial.
+#![tactic(auto)]
+
 ghost use Rattle.std.specs.Prelude.{◌≡◌};
 ghost use Rattle.number.specs.Read.{read_answer, read_number_of};
 ghost use Rattle.dialling.specs.Write.{write_number_of};

@@ -1,5 +1,7 @@
 // Called party numbers for C and Rust: reading and writing. With `llachurep`
 // and its like they are one library.
+#![tactic(auto)]
+
 ghost use Rattle.std.specs.Prelude.{◌≡◌};
 ghost use Rattle.number.specs.Read.{read_number_of};
 ghost use Rattle.dialling.specs.Write.{write_number_of};

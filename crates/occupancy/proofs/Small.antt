@@ -4,7 +4,7 @@ use mathlib.Core.Path.{◌≡◌}
 use mathlib.Core.Bool.{Bool, true, false}
 use mathlib.Core.List.{List}
 use native.Mathlib.Omega.{arith}
-use Rattle.octets.specs.Choice.{if◌then◌else◌}
+use Rattle.octets.specs.Choice.{when◌then◌else◌}
 use Rattle.octets.specs.Answer.{accepted, refused}
 use Rattle.octets.specs.Filled.{leaving}
 use Rattle.octets.proofs.Answer.{accepted-same, refused-accepted}
@@ -20,7 +20,7 @@ module _ (states totals : List ℕ) where
   unfolding rebuild_of
   rebuild-small n e = go (sized_totals states totals) e
     where
-      go : (t : Bool) → (if t then leaving (accepted 64) (all_counted states totals) else leaving (refused 16 0) totals).answer ≡ accepted n → n ≤ 64
+      go : (t : Bool) → (when t then leaving (accepted 64) (all_counted states totals) else leaving (refused 16 0) totals).answer ≡ accepted n → n ≤ 64
       go true q = omega (arith, accepted-same q)
       go false q = absurd (refused-accepted q)
 

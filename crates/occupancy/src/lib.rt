@@ -1,5 +1,7 @@
 // The boundary's functions on the totals of busy circuits: the question how many are busy, and the
 // rebuild. With `llachurep` and its like they are one library for C and Rust.
+#![tactic(auto)]
+
 ghost use Rattle.std.specs.Prelude.{◌≡◌};
 ghost use Rattle.totals.specs.Blocks.{rebuild_of};
 ghost use Rattle.totals.specs.Question.{busy_between_lem};

@@ -3,7 +3,7 @@ use Prim.Native.Nat.{ℕ}
 use mathlib.Core.Path.{◌≡◌, refl, sym, ◌∙◌, ap}
 use mathlib.Core.Bool.{Bool, true, false}
 use native.Mathlib.Omega.{arith}
-use Rattle.octets.specs.Choice.{if◌then◌else◌}
+use Rattle.octets.specs.Choice.{when◌then◌else◌}
 use Rattle.octets.specs.Answer.{Answer, accepted, refused, ◌then◌}
 
 -- what is accepted is not refused
@@ -30,11 +30,11 @@ pub one_answer : {A : Type 0} {a r s : A} → r ≡ a → s ≡ a → r ≡ s
 one_answer p q = p ∙ sym q
 
 -- accepted past a test for a refusal
-pub past-test : {A : Type 0} (n at : ℕ) (t : Bool) {y : Answer A} {a : A} → (if t then refused n at else y) ≡ accepted a → (t ≡ false) × (y ≡ accepted a)
+pub past-test : {A : Type 0} (n at : ℕ) (t : Bool) {y : Answer A} {a : A} → (when t then refused n at else y) ≡ accepted a → (t ≡ false) × (y ≡ accepted a)
 past-test n at true h = absurd (refused-accepted h)
 past-test n at false h = (refl, h)
 
-pub test-past : {A : Type 0} (n at : ℕ) {t : Bool} {y : Answer A} {a : A} → t ≡ false → y ≡ accepted a → (if t then refused n at else y) ≡ accepted a
+pub test-past : {A : Type 0} (n at : ℕ) {t : Bool} {y : Answer A} {a : A} → t ≡ false → y ≡ accepted a → (when t then refused n at else y) ≡ accepted a
 test-past n at e h = rw e h
 
 -- the same on the way, and the same from there on

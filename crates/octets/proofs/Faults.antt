@@ -4,7 +4,7 @@ use mathlib.Core.Path.{◌≡◌, refl, sym, subst}
 use mathlib.Core.Bool.{Bool, true, false}
 use mathlib.Core.List.{List, [], ◌∷◌, ◌++◌}
 use mathlib.Core.Logic.{◌⊎◌, inl, inr, ⊎_elim, ◌↔◌}
-use Rattle.octets.specs.Choice.{if◌then◌else◌}
+use Rattle.octets.specs.Choice.{when◌then◌else◌}
 use Rattle.octets.specs.Answer.{Answer, accepted, refused, ◌then◌}
 use Rattle.octets.specs.Faults.{Fault, Absent, First, None, Judges, fault}
 use Rattle.octets.proofs.Answer.{refused-accepted, refused-same}
@@ -61,7 +61,7 @@ judges-absent f z j = record {
 
 -- a test for a fault, then the rest
 pub judges-if : {A : Type 0} {y : Answer A} {P : Type 0} {n q : ℕ} {fs : List Fault} (t : Bool)
-    → (t ≡ true → P) → (t ≡ false → P → ⊥) → (t ≡ false → Judges y fs) → Judges (if t then refused n q else y) (fault n q P ∷ fs)
+    → (t ≡ true → P) → (t ≡ false → P → ⊥) → (t ≡ false → Judges y fs) → Judges (when t then refused n q else y) (fault n q P ∷ fs)
 judges-if {n = n} {q = q} true p z j = judges-there (fault n q _) _ q (refl, p refl) (λ at h. h.0)
 judges-if {n = n} {q = q} false p z j = judges-absent (fault n q _) (λ at h. z refl h.1) (j refl)
 
@@ -97,7 +97,7 @@ judges-then (refused n' at') g fs gs j k =
     }
 
 -- a choice that is no refusal by itself
-pub judges-choice : {A : Type 0} {x y : Answer A} {fs : List Fault} (t : Bool) → (t ≡ true → Judges x fs) → (t ≡ false → Judges y fs) → Judges (if t then x else y) fs
+pub judges-choice : {A : Type 0} {x y : Answer A} {fs : List Fault} (t : Bool) → (t ≡ true → Judges x fs) → (t ≡ false → Judges y fs) → Judges (when t then x else y) fs
 judges-choice true f g = f refl
 judges-choice false f g = g refl
 

@@ -8,7 +8,7 @@ use mathlib.Core.Logic.{◌⊎◌, inl, inr, ⊎_elim}
 use native.Mathlib.Omega.{arith}
 use lib.Dec.{ltb}
 use lib.ListN.{length}
-use Rattle.octets.specs.Choice.{if◌then◌else◌}
+use Rattle.octets.specs.Choice.{when◌then◌else◌}
 use Rattle.octets.specs.Answer.{Answer, accepted, refused, ◌then◌}
 use Rattle.octets.specs.Faults.{Fault, First, Judges}
 use Rattle.octets.specs.Filled.{done, room_for}
@@ -42,7 +42,7 @@ up-to-accepted k a n at e = absurd (refused-accepted (sym e))
 pub up-to-refused : {A : Type 0} (k n at : ℕ) → at ≤ k → UpTo {A = A} k (refused n at)
 up-to-refused k n at h n' at' e = omega (arith, (refused-same e).1)
 
-pub up-to-if : {A : Type 0} {x y : Answer A} (k : ℕ) (t : Bool) → (t ≡ true → UpTo k x) → (t ≡ false → UpTo k y) → UpTo k (if t then x else y)
+pub up-to-if : {A : Type 0} {x y : Answer A} (k : ℕ) (t : Bool) → (t ≡ true → UpTo k x) → (t ≡ false → UpTo k y) → UpTo k (when t then x else y)
 up-to-if k true p q = p refl
 up-to-if k false p q = q refl
 

@@ -1,11 +1,11 @@
 -- One of a list of numbers: the test, and what it means.
 use Rattle.std.specs.Prelude.{ℕ, ◌≡◌, Bool, true, false, List, [], ◌∷◌, ◌⊎◌, eqb}
-use Rattle.octets.specs.Choice.{if◌then◌else◌}
+use Rattle.octets.specs.Choice.{when◌then◌else◌}
 
 -- whether a number is one of the list
 abbrev pub among : ℕ → List ℕ → Bool
 among t [] = false
-among t (x ∷ xs) = if eqb t x then true else among t xs
+among t (x ∷ xs) = when eqb t x then true else among t xs
 
 -- the number is one of the list
 abbrev pub OneOf : ℕ → List ℕ → Type 0

@@ -1,8 +1,8 @@
 -- The choice by a test.
 use Rattle.std.specs.Prelude.{Bool, true, false}
 
-infixr 10 if◌then◌else◌
+infixr 10 when◌then◌else◌
 -- the first where the test holds, else the second
-abbrev pub if◌then◌else◌ : {A : Type 0} → Bool → A → A → A
-if◌then◌else◌ true a b = a
-if◌then◌else◌ false a b = b
+abbrev pub when◌then◌else◌ : {A : Type 0} → Bool → A → A → A
+when◌then◌else◌ true a b = a
+when◌then◌else◌ false a b = b

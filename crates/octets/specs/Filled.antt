@@ -1,6 +1,6 @@
 -- What a lent buffer holds afterwards.
 use Rattle.std.specs.Prelude.{ℕ, ◌<◌, ◌≡◌, List, ◌++◌, ltb, length, drop}
-use Rattle.octets.specs.Choice.{if◌then◌else◌}
+use Rattle.octets.specs.Choice.{when◌then◌else◌}
 use Rattle.octets.specs.Answer.{Answer, accepted, refused}
 use Rattle.octets.specs.Faults.{Fault, fault}
 
@@ -25,7 +25,7 @@ leaving answer left = record { answer = answer; left = left }
 
 -- 13 where the lent buffer is shorter than the octets that are to fill its front
 abbrev pub room_for : {A : Type 0} → List ℕ → A × List ℕ → Answer (A × List ℕ)
-room_for buffer x = if ltb (length buffer) (length x.1) then refused 13 0 else accepted x
+room_for buffer x = when ltb (length buffer) (length x.1) then refused 13 0 else accepted x
 
 -- the fault of 13, last of all: there are octets to write, and the lent buffer is shorter
 abbrev pub room_fault : {A : Type 0} → Answer (A × List ℕ) → List ℕ → Fault

@@ -1,4 +1,6 @@
 // The tables of a replay as a day begins: nothing is owned, busy, blocked or counted.
+#![tactic(auto)]
+
 ghost use Rattle.std.specs.Prelude.{◌≡◌, [], ◌<◌, length, replicate};
 ghost use Rattle.day.specs.Day.{day, machine, sized_by, begun_of};
 

@@ -1,10 +1,12 @@
 // The parts of a message: where each stands, what it holds, and whether two of them share an octet.
+#![tactic(auto)]
+
 ghost use Rattle.std.specs.Prelude.{◌≡◌};
 ghost use Rattle.parts.specs.Overlap.{shares_of, later, contents_of_lem, run_of, judged};
 ghost use Rattle.parts.specs.Told.{body_told};
 
 // Octets from `from` up to and not including `to`. 0..0 stands for a part that is not there.
-#[derive(Drop)]
+#[derive(Clone, Copy)]
 pub struct Span {
     pub from: usize,
     pub to: usize,
@@ -12,7 +14,7 @@ pub struct Span {
 
 // Where a message has its fixed part, the contents of its variable parameters (past their length
 // octets) and its optional run (without the 0 that closes it).
-#[derive(Drop)]
+#[derive(Clone, Copy)]
 pub struct Parts {
     pub fixed: Span,
     pub first: Span,
@@ -22,7 +24,7 @@ pub struct Parts {
 }
 
 // The parts of a message, or the refusal's number and the octet that it is about.
-#[derive(Drop)]
+#[derive(Clone, Copy)]
 pub enum Body {
     Laid(Parts),
     Broken(u8, usize),

@@ -1,4 +1,6 @@
 // Who may do what on the circuits that a message names: 19, 22, 20 and 21, in that order.
+#![tactic(auto)]
+
 ghost use Rattle.std.specs.Prelude.{◌≡◌, ◌+◌, ◌≤◌, ◌<◌, length};
 ghost use Rattle.asks.specs.Told.{verdict_told};
 ghost use Rattle.rights.specs.Tables.{tables};

@@ -1,4 +1,6 @@
 // Stretches of lent octets, and a buffer of the most octets that a line may lend.
+#![tactic(auto)]
+
 ghost use Rattle.std.specs.Prelude.{◌≡◌, length, take};
 ghost use Rattle.octets.specs.Octet.{octets};
 ghost use Rattle.lines.specs.Lines.{blank};

@@ -1,4 +1,6 @@
 // Where stepping starts in a message of each family, and a cursor there.
+#![tactic(auto)]
+
 ghost use Rattle.std.specs.Prelude.{◌≡◌};
 ghost use Rattle.layout.specs.Container.{parts_of};
 ghost use Rattle.family.specs.Steps.{start_by, start_in};

@@ -1,4 +1,6 @@
 // A field of a line, where its octets stand in the scratch.
+#![tactic(auto)]
+
 ghost use Rattle.std.specs.Prelude.{◌≡◌, ◌≤◌};
 ghost use Rattle.fields.specs.Letters.{kind_of};
 ghost use Rattle.fields.specs.Placed.{field, no_field, placed};

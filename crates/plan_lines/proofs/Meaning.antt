@@ -10,7 +10,7 @@ use borrow.Author.Tests.{eqb-true}
 use lib.Dec.{eqb}
 use lib.ListN.{length, get_or, take}
 use Rattle.octets.specs.Octet.{octet, AllOctets}
-use Rattle.octets.specs.Choice.{if◌then◌else◌}
+use Rattle.octets.specs.Choice.{when◌then◌else◌}
 use Rattle.octets.specs.Answer.{Answer, accepted, refused}
 use Rattle.octets.specs.Filled.{leaving}
 use Rattle.octets.specs.Applied.{spread}
@@ -40,8 +40,8 @@ module _ (T : Tables) (ticks : List ℕ) (gs : List FieldSays) where
   others-keep-ticks which n = go (eqb which TICK) (eqb which PLAN) refl
     where
       go : (a b : Bool) → eqb which TICK ≡ a
-          → (if a then night_after (spread ticks (number_at gs 0) (number_at gs 1) (octet_at_lem gs 2)) (said "ok")
-          else if b then night_after ticks (plan_line T ticks (number_at gs 0) (number_at gs 1) (number_at gs 2))
+          → (when a then night_after (spread ticks (number_at gs 0) (number_at gs 1) (octet_at_lem gs 2)) (said "ok")
+          else when b then night_after ticks (plan_line T ticks (number_at gs 0) (number_at gs 1) (number_at gs 2))
           else night_after ticks (checked_line (check_at T ticks (number_at gs 0) (number_at gs 1) (octets_at gs 2)))).ticks ≡ ticks
       go true b e = absurd (n (eqb-true which TICK e))
       go false true e = refl

@@ -1,7 +1,7 @@
 -- What the requests of a maintenance night do (tick, plan, check): the ticks afterwards, and the
 -- answer's line. None of them changes another table.
 use Rattle.std.specs.Prelude.{ℕ, Bool, true, false, List, eqb, take, replicate}
-use Rattle.octets.specs.Choice.{if◌then◌else◌}
+use Rattle.octets.specs.Choice.{when◌then◌else◌}
 use Rattle.octets.specs.Applied.{spread}
 use Rattle.rights.specs.Tables.{Tables}
 use Rattle.plans.specs.Turns.{check_at}
@@ -44,8 +44,8 @@ night_after ticks line = record { ticks = ticks; line = line }
 -- the last; plan, and check, the family's last, change nothing
 unfoldable pub night_done : Tables → List ℕ → ℕ → List FieldSays → NightAfter
 night_done T ticks which gs =
-    if eqb which TICK then night_after (spread ticks (number_at gs 0) (number_at gs 1) (octet_at_lem gs 2)) (said "ok")
-    else if eqb which PLAN then night_after ticks (plan_line T ticks (number_at gs 0) (number_at gs 1) (number_at gs 2))
+    when eqb which TICK then night_after (spread ticks (number_at gs 0) (number_at gs 1) (octet_at_lem gs 2)) (said "ok")
+    else when eqb which PLAN then night_after ticks (plan_line T ticks (number_at gs 0) (number_at gs 1) (number_at gs 2))
     else night_after ticks (checked_line (check_at T ticks (number_at gs 0) (number_at gs 1) (octets_at gs 2)))
 
 -- the ticks and the lent sheet afterwards

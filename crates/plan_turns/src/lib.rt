@@ -1,5 +1,7 @@
 // What the desk answers to the requests of a maintenance night (tick, plan,
 // check), and what they leave in the ticks.
+#![tactic(auto)]
+
 ghost use Rattle.std.specs.Prelude.{◌≡◌, length};
 ghost use Rattle.rights.specs.Tables.{tables};
 ghost use Rattle.plans.specs.Turns.{check_at};

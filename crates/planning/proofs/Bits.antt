@@ -10,7 +10,7 @@ use borrow.Author.Tests.{ltb-true}
 use lib.Dec.{eqb, ltb}
 use lib.ListN.{length}
 use Rattle.octets.specs.Octet.{octet}
-use Rattle.octets.specs.Choice.{if◌then◌else◌}
+use Rattle.octets.specs.Choice.{when◌then◌else◌}
 use Rattle.octets.proofs.Choice.{chosen, decided, true-false}
 use Rattle.asks.specs.Asks.{bit_at, mark_of}
 use Rattle.planning.specs.Planner.{ones, low_ones_lem, cgb}
@@ -18,7 +18,7 @@ use Rattle.planning.specs.Planner.{ones, low_ones_lem, cgb}
 -- ---- a test of each number below n, computed
 all_below : (ℕ → Bool) → ℕ → Bool
 all_below f zero = true
-all_below f (suc n) = if f n then all_below f n else false
+all_below f (suc n) = when f n then all_below f n else false
 
 all-below : (f : ℕ → Bool) (n : ℕ) → all_below f n ≡ true → (i : ℕ) → i < n → f i ≡ true
 unfolding all_below

@@ -10,7 +10,7 @@ use native.Mathlib.Nat.{eq-or-lt_of_le}
 use borrow.Author.Tests.{ltb-true, ltb-false, eqb-true, eqb-false, eq-eqb}
 use lib.Dec.{eqb, ltb}
 use lib.ListN.{length}
-use Rattle.octets.specs.Choice.{if◌then◌else◌}
+use Rattle.octets.specs.Choice.{when◌then◌else◌}
 use Rattle.octets.specs.Answer.{accepted}
 use Rattle.octets.proofs.Choice.{true-false}
 use Rattle.asks.specs.Asks.{width, ask_of, mark_of}
@@ -113,7 +113,7 @@ module _ (can : ℕ → Bool) (c : ℕ) where
       p.1
     where
       go : (t : Bool) → ltb c 4095 ≡ t → (u : Bool) → can (c + 1) ≡ u → ((c < 4095) × (can (c + 1) ≡ true)) ⊎ ((1 ≤ c) × (can (c - 1) ≡ true))
-          → Meant 1 can c 1 (if (if t then u else false) then cgb_step c 1 1 (1 ∷ []) else cgb_step (c - 1) 1 1 (2 ∷ []))
+          → Meant 1 can c 1 (when (when t then u else false) then cgb_step c 1 1 (1 ∷ []) else cgb_step (c - 1) 1 1 (2 ∷ []))
       go true t true u q = meant-after (ltb-true c 4095 t) p.0 u
       go true t false u q = ⊎_elim (λ x. absurd (true-false x.1 u)) (λ x. meant-before h x.0 p.0 x.1) q
       go false t u v q = ⊎_elim (λ x. absurd (omega (arith, ltb-false c 4095 t))) (λ x. meant-before h x.0 p.0 x.1) q
@@ -123,7 +123,7 @@ module _ (can : ℕ → Bool) (c : ℕ) where
   meant kind n k a b h p = go (eqb n 1) refl (eqb kind 0) refl
     where
       go : (t : Bool) → eqb n 1 ≡ t → (u : Bool) → eqb kind 0 ≡ u
-          → Meant kind can c n (if t then (if u then blo_step c else paired can c) else cgb_step c kind (n - 1) (ones (width (n - 1)) n))
+          → Meant kind can c n (when t then (when u then blo_step c else paired can c) else cgb_step c kind (n - 1) (ones (width (n - 1)) n))
       go true t true u =
           rw (eqb-true n 1 t, eqb-true kind 0 u) (meant-blo (omega (arith, eqb-true n 1 t)) (p c (omega arith) (omega arith)).0)
       go true t false u =

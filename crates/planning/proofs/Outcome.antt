@@ -9,7 +9,7 @@ use borrow.Author.Tests.{eqb-true, eqb-false, ltb-true, ltb-false}
 use lib.Dec.{ltb, eqb}
 use lib.ListN.{length, take}
 use Rattle.octets.specs.Octet.{octet}
-use Rattle.octets.specs.Choice.{if◌then◌else◌}
+use Rattle.octets.specs.Choice.{when◌then◌else◌}
 use Rattle.octets.specs.Answer.{accepted, refused}
 use Rattle.octets.specs.Filled.{Done, leaving}
 use Rattle.octets.specs.Faults.{fault, Judges}
@@ -37,7 +37,7 @@ use Rattle.plans.proofs.Hub.{hub-grants}
 use Rattle.plans.proofs.Turns.{both, in-turn-good, good-in-turn, good-accepted}
 
 -- one of the two is not so
-either : (s t : Bool) → (if s then t else false) ≡ false → (s ≡ false) ⊎ (t ≡ false)
+either : (s t : Bool) → (when s then t else false) ≡ false → (s ≡ false) ⊎ (t ≡ false)
 either true t e = inr e
 either false t e = inl refl
 
@@ -52,7 +52,7 @@ module _ (T : Tables) (ticks : List ℕ) where
   sized-is : sized_all T ticks ≡ true → Sized T ticks
   sized-is e =
       let a = both (sized T) (eqb (length ticks) 4096) e in
-      let b = both (eqb (length T.states) 4096) (if eqb (length T.owners) 4096 then eqb (length T.helpers) 4096 else false) a.0 in
+      let b = both (eqb (length T.states) 4096) (when eqb (length T.owners) 4096 then eqb (length T.helpers) 4096 else false) a.0 in
       let c = both (eqb (length T.owners) 4096) (eqb (length T.helpers) 4096) b.1 in
       record { for-states = eqb-true _ _ b.0; for-owners = eqb-true _ _ c.0; for-helpers = eqb-true _ _ c.1; for-ticks = eqb-true _ _ a.1 }
 
@@ -63,7 +63,7 @@ module _ (T : Tables) (ticks : List ℕ) where
       (⊎_elim
       (λ b. inl (eqb-false _ _ b))
       (λ b. inr (⊎_elim (λ c. inl (eqb-false _ _ c)) (λ c. inr (eqb-false _ _ c)) (either (eqb (length T.owners) 4096) (eqb (length T.helpers) 4096) b)))
-      (either (eqb (length T.states) 4096) (if eqb (length T.owners) 4096 then eqb (length T.helpers) 4096 else false) a)))
+      (either (eqb (length T.states) 4096) (when eqb (length T.owners) 4096 then eqb (length T.helpers) 4096 else false) a)))
       (λ a. inr (eqb-false _ _ a))
       (either (sized T) (eqb (length ticks) 4096) e)
 
@@ -119,7 +119,7 @@ module _ (T : Tables) (ticks : List ℕ) (sender kind : ℕ) where
   plan-judges room = go (sized_all T ticks) refl
     where
       go : (t : Bool) → sized_all T ticks ≡ t
-          → Judges {A = ℕ × List ℕ} (if t then (if ltb 1 kind then refused 14 0 else (if is_found (first_illegal_lem T.states 0 4096) then refused 20 0 else (if is_stuck kind can (ticked ticks) then refused 25 0 else (if ltb room (9 * tick_count (ticked ticks) 0 4096) then refused 13 0 else accepted (length found, found))))) else refused 16 0)
+          → Judges {A = ℕ × List ℕ} (when t then (when ltb 1 kind then refused 14 0 else (when is_found (first_illegal_lem T.states 0 4096) then refused 20 0 else (when is_stuck kind can (ticked ticks) then refused 25 0 else (when ltb room (9 * tick_count (ticked ticks) 0 4096) then refused 13 0 else accepted (length found, found))))) else refused 16 0)
           (plan_faults T ticks sender kind room)
       go false e = judges-there (fault 16 0 _) _ 0 (refl, wrong-is T ticks e) (λ at h. h.0)
       go true e =

@@ -10,7 +10,7 @@ use native.Mathlib.Nat.{eq-or-lt_of_le}
 use borrow.Author.Tests.{ltb-true, ltb-false, le-ltb, lt-ltb}
 use lib.Dec.{ltb}
 use lib.ListN.{length, length-append, get_or-eq_default}
-use Rattle.octets.specs.Choice.{if◌then◌else◌}
+use Rattle.octets.specs.Choice.{when◌then◌else◌}
 use Rattle.octets.specs.Answer.{Answer}
 use Rattle.octets.proofs.Choice.{decided, true-false}
 use Rattle.layout.specs.Container.{bit}
@@ -28,7 +28,7 @@ module _ (tick : ℕ → Bool) where
   row-most c zero = omega arith
   row-most c (suc n) = go (tick c) (row-most (suc c) n)
     where
-      go : (t : Bool) → in_row tick (suc c) n ≤ n → (if t then suc (in_row tick (suc c) n) else 0) ≤ suc n
+      go : (t : Bool) → in_row tick (suc c) n ≤ n → (when t then suc (in_row tick (suc c) n) else 0) ≤ suc n
       go true h = omega arith
       go false h = omega arith
 
@@ -37,7 +37,7 @@ module _ (tick : ℕ → Bool) where
   row-ticked c zero j a b = absurd (omega arith)
   row-ticked c (suc n) j a b = go (tick c) refl (λ x y. row-ticked (suc c) n j x y) b
     where
-      go : (t : Bool) → tick c ≡ t → (suc c ≤ j → j < suc c + in_row tick (suc c) n → tick j ≡ true) → j < c + (if t then suc (in_row tick (suc c) n) else 0) → tick j ≡ true
+      go : (t : Bool) → tick c ≡ t → (suc c ≤ j → j < suc c + in_row tick (suc c) n → tick j ≡ true) → j < c + (when t then suc (in_row tick (suc c) n) else 0) → tick j ≡ true
       go true t ih h = ⊎_elim (λ q. rw (← q) t) (λ l. ih l (omega arith)) (eq-or-lt_of_le a)
       go false t ih h = absurd (omega arith)
 
@@ -86,21 +86,21 @@ module _ (kind : ℕ) (can tick : ℕ → Bool) (kinds : kind ≤ 1) (low : (j :
   stands judge g (suc f) c = go (tick c) refl (stands judge g f (c + in_row tick c 32)) (stands judge g f (suc c))
     where
       go : (t : Bool) → tick c ≡ t → Each (JudgedStep judge kind) (plan_from kind can tick f (c + in_row tick c 32)) → Each (JudgedStep judge kind) (plan_from kind can tick f (suc c))
-          → Each (JudgedStep judge kind) (if t then step_for kind can c (in_row tick c 32) ∷ plan_from kind can tick f (c + in_row tick c 32) else plan_from kind can tick f (suc c))
+          → Each (JudgedStep judge kind) (when t then step_for kind can c (in_row tick c 32) ∷ plan_from kind can tick f (c + in_row tick c 32) else plan_from kind can tick f (suc c))
       go true t x y =
           let m = (at_row c t).2 in
           (record { granted = g.takes _ _ m.asks m.fit m.rights; fit = m.fit; short = m.short }, x)
       go false t x y = y
 
   -- a circuit from c on is marked once where it is ticked
-  marked-once : (f c : ℕ) → 4096 ≤ f + c → (j : ℕ) → j ≤ 4095 → times (plan_from kind can tick f c) j ≡ (if ltb j c then 0 else bit (tick j))
+  marked-once : (f c : ℕ) → 4096 ≤ f + c → (j : ℕ) → j ≤ 4095 → times (plan_from kind can tick f c) j ≡ (when ltb j c then 0 else bit (tick j))
   unfolding plan_from times
   marked-once zero c h j l = rw (lt-ltb j c (omega arith))
   marked-once (suc f) c h j l = go (tick c) refl (λ n b. marked-once f (c + n) (omega arith) j l) (marked-once f (suc c) (omega arith) j l)
     where
-      go : (t : Bool) → tick c ≡ t → ((n : ℕ) → 1 ≤ n → times (plan_from kind can tick f (c + n)) j ≡ (if ltb j (c + n) then 0 else bit (tick j)))
-          → times (plan_from kind can tick f (suc c)) j ≡ (if ltb j (suc c) then 0 else bit (tick j))
-          → times (if t then step_for kind can c (in_row tick c 32) ∷ plan_from kind can tick f (c + in_row tick c 32) else plan_from kind can tick f (suc c)) j ≡ (if ltb j c then 0 else bit (tick j))
+      go : (t : Bool) → tick c ≡ t → ((n : ℕ) → 1 ≤ n → times (plan_from kind can tick f (c + n)) j ≡ (when ltb j (c + n) then 0 else bit (tick j)))
+          → times (plan_from kind can tick f (suc c)) j ≡ (when ltb j (suc c) then 0 else bit (tick j))
+          → times (when t then step_for kind can c (in_row tick c 32) ∷ plan_from kind can tick f (c + in_row tick c 32) else plan_from kind can tick f (suc c)) j ≡ (when ltb j c then 0 else bit (tick j))
       go true t x y =
           let w = at_row c t in
           let n = in_row tick c 32 in
@@ -136,7 +136,7 @@ module _ (kind : ℕ) (can tick : ℕ → Bool) (kinds : kind ≤ 1) (low : (j :
     where
       go : (t : Bool) → tick c ≡ t → ((n : ℕ) → n ≤ k → length (framed (messages (plan_from kind can tick f (c + n)))) ≤ 9 * tick_count tick (c + n) (k - n))
           → length (framed (messages (plan_from kind can tick f (suc c)))) ≤ 9 * tick_count tick (suc c) (k - 1)
-          → length (framed (messages (if t then step_for kind can c (in_row tick c 32) ∷ plan_from kind can tick f (c + in_row tick c 32) else plan_from kind can tick f (suc c)))) ≤ 9 * tick_count tick c k
+          → length (framed (messages (when t then step_for kind can c (in_row tick c 32) ∷ plan_from kind can tick f (c + in_row tick c 32) else plan_from kind can tick f (suc c)))) ≤ 9 * tick_count tick c k
       go true t x y =
           let w = at_row c t in
           let n = in_row tick c 32 in

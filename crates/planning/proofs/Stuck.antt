@@ -9,7 +9,7 @@ use native.Mathlib.Nat.{eq-or-lt_of_le}
 use borrow.Author.Tests.{ltb-true, ltb-false, eqb-true, eqb-false}
 use lib.Dec.{eqb, ltb}
 use lib.ListN.{length}
-use Rattle.octets.specs.Choice.{if◌then◌else◌}
+use Rattle.octets.specs.Choice.{when◌then◌else◌}
 use Rattle.octets.specs.Answer.{Answer}
 use Rattle.octets.proofs.Choice.{chosen, decided, true-false}
 use Rattle.layout.specs.Container.{bit}
@@ -70,7 +70,7 @@ unfolding can_plan
 can-plan-is kind can c e = go (can c) (eqb kind 0) (ltb c 4095) (can (c + 1)) (eqb c 0) refl refl refl refl refl e
   where
     go : (p q r s t : Bool) → can c ≡ p → eqb kind 0 ≡ q → ltb c 4095 ≡ r → can (c + 1) ≡ s → eqb c 0 ≡ t
-        → (if p then (if q then true else (if (if r then s else false) then true else (if t then false else can (c - 1)))) else false) ≡ true → Plannable kind can c
+        → (when p then (when q then true else (when (when r then s else false) then true else (when t then false else can (c - 1)))) else false) ≡ true → Plannable kind can c
     go false q r s t a b d f h e = absurd (true-false {t = false} e refl)
     go true true r s t a b d f h e = (a, inl (eqb-true _ _ b))
     go true false true true t a b d f h e = (a, inr (inl (ltb-true _ _ d, f)))
@@ -84,7 +84,7 @@ unfolding can_plan
 can-plan-so kind can c p = go (can c) (eqb kind 0) (ltb c 4095) (can (c + 1)) (eqb c 0) refl refl refl refl refl
   where
     go : (x q r s t : Bool) → can c ≡ x → eqb kind 0 ≡ q → ltb c 4095 ≡ r → can (c + 1) ≡ s → eqb c 0 ≡ t
-        → (if x then (if q then true else (if (if r then s else false) then true else (if t then false else can (c - 1)))) else false) ≡ true
+        → (when x then (when q then true else (when (when r then s else false) then true else (when t then false else can (c - 1)))) else false) ≡ true
     go false q r s t a b d f h = absurd (true-false p.0 a)
     go true true r s t a b d f h = refl
     go true false true true t a b d f h = refl
@@ -97,14 +97,14 @@ can-plan-so kind can c p = go (can c) (eqb kind 0) (ltb c 4095) (can (c + 1)) (e
 pub unstuck-is : (kind : ℕ) (can tick : ℕ → Bool) → ((j : ℕ) → tick j ≡ true → j ≤ 4095) → is_stuck kind can tick ≡ false → (c : ℕ) → tick c ≡ true → Plannable kind can c
 unfolding is_stuck
 unstuck-is kind can tick low e c t =
-    let h = found_none (λ j. if tick j then can_plan kind can j else true) 0 4096 e c (omega arith) (omega (arith, low c t)) in
+    let h = found_none (λ j. when tick j then can_plan kind can j else true) 0 4096 e c (omega arith) (omega (arith, low c t)) in
     can-plan-is kind can c (sym (rw t) ∙ h)
 
 -- one is: a ticked circuit that cannot
 pub stuck-is : (kind : ℕ) (can tick : ℕ → Bool) → is_stuck kind can tick ≡ true → (c : ℕ) × (tick c ≡ true) × (Plannable kind can c → ⊥)
 unfolding is_stuck
 stuck-is kind can tick e =
-    let f = found_some (λ j. if tick j then can_plan kind can j else true) 0 4096 e in
+    let f = found_some (λ j. when tick j then can_plan kind can j else true) 0 4096 e in
     ⊎_elim
     (λ t. (f.0, t.0, λ p. true-false (can-plan-so kind can f.0 p) t.1))
     (λ t. absurd (true-false {t = true} refl t.1))

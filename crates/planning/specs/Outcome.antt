@@ -1,7 +1,7 @@
 -- The planner, all of it: the answer and the lent buffer afterwards. Order: 16, 14, 20, 25, 13.
 use Rattle.std.specs.Prelude.{ℕ, ◌*◌, ◌≤◌, ◌<◌, ◌≡◌, Bool, false, List, [], ◌∷◌, ◌⊎◌, ltb, eqb, length}
 use Rattle.octets.specs.Octet.{octet}
-use Rattle.octets.specs.Choice.{if◌then◌else◌}
+use Rattle.octets.specs.Choice.{when◌then◌else◌}
 use Rattle.octets.specs.Answer.{Answer, accepted, refused}
 use Rattle.octets.specs.Filled.{Done, done}
 use Rattle.octets.specs.Faults.{Fault, fault}
@@ -16,7 +16,7 @@ use Rattle.planning.specs.Planner.{plan_of}
 
 -- whether each of the four tables has exactly 4096 octets
 abbrev pub sized_all : Tables → List ℕ → Bool
-sized_all T ticks = if sized T then eqb (length ticks) 4096 else false
+sized_all T ticks = when sized T then eqb (length ticks) 4096 else false
 
 -- a message after its length octet
 abbrev pub frame : List ℕ → List ℕ
@@ -39,12 +39,12 @@ plan_for owners helpers ticks sender kind =
 -- the plan's octets, or the number
 unfoldable pub planned_in : Tables → List ℕ → ℕ → ℕ → ℕ → Answer (ℕ × List ℕ)
 planned_in T ticks sender kind room =
-    if sized_all T ticks then
-    (if ltb 1 kind then refused 14 0
-    else (if is_found (first_illegal_lem T.states 0 4096) then refused 20 0
-    else (if is_stuck kind (may_block_lem kind T.owners T.helpers sender) (ticked ticks)
+    when sized_all T ticks then
+    (when ltb 1 kind then refused 14 0
+    else (when is_found (first_illegal_lem T.states 0 4096) then refused 20 0
+    else (when is_stuck kind (may_block_lem kind T.owners T.helpers sender) (ticked ticks)
     then refused 25 0
-    else (if ltb room (9 * tick_count (ticked ticks) 0 4096) then refused 13 0
+    else (when ltb room (9 * tick_count (ticked ticks) 0 4096) then refused 13 0
     else accepted (
       length (plan_for T.owners T.helpers ticks sender kind),
       plan_for T.owners T.helpers ticks sender kind,

@@ -2,7 +2,7 @@
 -- one CGB with every bit set.
 -- A single one is BLO for maintenance; for hardware it is a CGB of range 1 with an owned neighbour.
 use Rattle.std.specs.Prelude.{ℕ, zero, suc, ◌+◌, ◌-◌, ◌/◌, ◌%◌, ◌^◌, Bool, List, [], ◌∷◌, ltb, eqb}
-use Rattle.octets.specs.Choice.{if◌then◌else◌}
+use Rattle.octets.specs.Choice.{when◌then◌else◌}
 use Rattle.rows.specs.declared.Act.TheVariants.{Block, BlockGroup}
 use Rattle.asks.specs.declared.Ask.{Ask}
 use Rattle.isup.specs.Types.{BLO, CGB}
@@ -14,11 +14,11 @@ use Rattle.surveys.specs.Surveys.{next_will_do_lem}
 -- how many are ticked in a row from c on, n at the most
 unfoldable pub in_row : (ℕ → Bool) → ℕ → ℕ → ℕ
 in_row tick c zero = 0
-in_row tick c (suc n) = if tick c then suc (in_row tick (suc c) n) else 0
+in_row tick c (suc n) = when tick c then suc (in_row tick (suc c) n) else 0
 
 -- an octet with its first n bits set
 unfoldable pub low_ones_lem : ℕ → ℕ
-low_ones_lem n = if ltb n 8 then 2 ^ n - 1 else 255
+low_ones_lem n = when ltb n 8 then 2 ^ n - 1 else 255
 
 -- the octets of a status with its first n bits set: whole octets, then what is left over
 unfoldable pub ones : ℕ → ℕ → List ℕ
@@ -47,19 +47,19 @@ blo_step c = record { message = blo c; ask = one_ask Block c }
 
 -- a single one for hardware: its bit is the first or the second
 abbrev pub paired : (ℕ → Bool) → ℕ → Step
-paired can c = if next_will_do_lem can c then cgb_step c 1 1 (1 ∷ []) else cgb_step (c - 1) 1 1 (2 ∷ [])
+paired can c = when next_will_do_lem can c then cgb_step c 1 1 (1 ∷ []) else cgb_step (c - 1) 1 1 (2 ∷ [])
 
 -- the message for n ticked circuits in a row from c on
 unfoldable pub step_for : ℕ → (ℕ → Bool) → ℕ → ℕ → Step
 step_for kind can c n =
-    if eqb n 1 then (if eqb kind 0 then blo_step c else paired can c)
+    when eqb n 1 then (when eqb kind 0 then blo_step c else paired can c)
     else cgb_step c kind (n - 1) (ones (width (n - 1)) n)
 
 -- from circuit c on; f + c is at least 4096
 unfoldable pub plan_from : ℕ → (ℕ → Bool) → (ℕ → Bool) → ℕ → ℕ → List Step
 plan_from kind can tick zero c = []
 plan_from kind can tick (suc f) c =
-    if tick c then step_for kind can c (in_row tick c 32) ∷ plan_from kind can tick f (c + in_row tick c 32)
+    when tick c then step_for kind can c (in_row tick c 32) ∷ plan_from kind can tick f (c + in_row tick c 32)
     else plan_from kind can tick f (suc c)
 
 -- the plan's octets

@@ -1,1 +1,2 @@
 // The planner of a maintenance night: definitions and theorems alone.
+#![tactic(auto)]

@@ -8,7 +8,7 @@ use borrow.Author.Tests.{le-ltb}
 use lib.Dec.{ltb}
 use lib.ListN.{length, take, drop, length-append}
 use lib.Seq.{take-append_seam, drop-append_seam}
-use Rattle.octets.specs.Choice.{if◌then◌else◌}
+use Rattle.octets.specs.Choice.{when◌then◌else◌}
 use Rattle.octets.specs.Answer.{Answer, accepted, refused, ◌then◌}
 use Rattle.octets.proofs.Answer.{accepted-same}
 use Rattle.plans.specs.Frames.{framed}
@@ -20,7 +20,7 @@ unframed zero [] = accepted []
 unframed zero (n ∷ rest) = refused 0 0
 unframed (suc f) [] = accepted []
 unframed (suc f) (n ∷ rest) =
-    if ltb (length rest) n then refused 0 0 else (unframed f (drop n rest) then λ ms. accepted (take n rest ∷ ms))
+    when ltb (length rest) n then refused 0 0 else (unframed f (drop n rest) then λ ms. accepted (take n rest ∷ ms))
 
 -- one message is at the front, and the others after it
 front_length : (m xs : List ℕ) → ltb (length (m ++ xs)) (length m) ≡ false

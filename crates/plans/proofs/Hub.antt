@@ -10,7 +10,7 @@ use borrow.Author.Tests.{eqb-true, eq-eqb}
 use lib.Dec.{eqb}
 use lib.ListN.{length}
 use Rattle.octets.specs.Octet.{octet}
-use Rattle.octets.specs.Choice.{if◌then◌else◌}
+use Rattle.octets.specs.Choice.{when◌then◌else◌}
 use Rattle.octets.specs.Answer.{accepted, ◌then◌}
 use Rattle.octets.proofs.Choice.{chosen, decided, true-false}
 use Rattle.rows.specs.declared.Act.{Act}
@@ -112,7 +112,7 @@ module _ (T : Tables) (sender : ℕ) where
       (λ (t : eqb kind 0 ≡ true).
       rw t (found_none (has_right T.owners T.helpers sender) a.circuit (a.range + 1) g.right c n.0 (omega (arith, n.1))))
       (λ (t : eqb kind 0 ≡ false).
-      let u : is_found (first_unowned_lem T.owners sender a.circuit (a.range + 1)) ≡ false = ap (λ (b : Bool). if b then false else is_found (first_unowned_lem T.owners sender a.circuit (a.range + 1))) (sym (h ∙ t)) ∙ g.helps in
+      let u : is_found (first_unowned_lem T.owners sender a.circuit (a.range + 1)) ≡ false = ap (λ (b : Bool). when b then false else is_found (first_unowned_lem T.owners sender a.circuit (a.range + 1))) (sym (h ∙ t)) ∙ g.helps in
       rw t (found_none (is_mine T.owners sender) a.circuit (a.range + 1) u c n.0 (omega (arith, n.1))))
       (decided (eqb kind 0))
 
@@ -121,7 +121,7 @@ module _ (T : Tables) (sender : ℕ) where
   may-right kind c e =
       ⊎_elim
       (λ t. t.1)
-      (λ t. ap (λ (b : Bool). if b then true else is_mine T.helpers sender c) t.1)
+      (λ t. ap (λ (b : Bool). when b then true else is_mine T.helpers sender c) t.1)
       (chosen (eqb kind 0) e)
 
   -- a message whose circuits may all be blocked so is not refused by 22

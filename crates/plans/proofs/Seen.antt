@@ -11,7 +11,7 @@ use lib.Dec.{eqb}
 use lib.ListN.{length, set, length-set}
 use lib.Seq.{get_or-set_same, get_or-set_other}
 use Rattle.octets.specs.Octet.{octet}
-use Rattle.octets.specs.Choice.{if◌then◌else◌}
+use Rattle.octets.specs.Choice.{when◌then◌else◌}
 use Rattle.octets.specs.Answer.{accepted, refused}
 use Rattle.octets.proofs.Answer.{refused-accepted, accepted-same}
 use Rattle.octets.proofs.Choice.{chosen}
@@ -83,7 +83,7 @@ module _ (marks : ℕ → Bool) where
       (seeing-takes (suc c) n seen (λ j a b t. fresh j (omega arith) (omega arith) t))
     where
       go : (t : Bool) → marks c ≡ t → (left : List ℕ) × (seeing marks (suc c) n (set seen c 1) ≡ accepted left) → (left : List ℕ) × (seeing marks (suc c) n seen ≡ accepted left)
-          → (left : List ℕ) × ((if t then (if eqb (octet seen c) 0 then seeing marks (suc c) n (set seen c 1) else refused 0 0) else seeing marks (suc c) n seen) ≡ accepted left)
+          → (left : List ℕ) × ((when t then (when eqb (octet seen c) 0 then seeing marks (suc c) n (set seen c 1) else refused 0 0) else seeing marks (suc c) n seen) ≡ accepted left)
       go true t x y = (x.0, rw (eq-eqb _ _ (fresh c (omega arith) (omega arith) t)) x.1)
       go false t x y = y
 

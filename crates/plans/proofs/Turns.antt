@@ -10,7 +10,7 @@ use borrow.Author.Tests.{eqb-true, eq-eqb, le-ltb}
 use lib.Dec.{eqb}
 use lib.ListN.{length}
 use Rattle.octets.specs.Octet.{octet, AllOctets}
-use Rattle.octets.specs.Choice.{if◌then◌else◌}
+use Rattle.octets.specs.Choice.{when◌then◌else◌}
 use Rattle.octets.specs.Answer.{Answer, accepted, refused}
 use Rattle.octets.proofs.Answer.{refused-accepted, accepted-same, then-accepted}
 use Rattle.octets.proofs.Choice.{true-false}
@@ -120,7 +120,7 @@ turn-free T sender kind steps = (
 )
 
 -- both tests hold
-pub both : (s t : Bool) → (if s then t else false) ≡ true → (s ≡ true) × (t ≡ true)
+pub both : (s t : Bool) → (when s then t else false) ≡ true → (s ≡ true) × (t ≡ true)
 both true t e = (refl, e)
 both false t e = absurd (true-false {t = false} e refl)
 
@@ -153,7 +153,7 @@ module _ (T : Tables) (ticks : List ℕ) (sender kind : ℕ) (plan : List ℕ) w
   check-exactly o = (
     λ e.
         let s = both (sized T) (check_of (judged_of T sender) ticks kind plan) e in
-        let k = both (eqb (length T.states) 4096) (if eqb (length T.owners) 4096 then eqb (length T.helpers) 4096 else false) s.0 in
+        let k = both (eqb (length T.states) 4096) (when eqb (length T.owners) 4096 then eqb (length T.helpers) 4096 else false) s.0 in
         let l = both (eqb (length T.owners) 4096) (eqb (length T.helpers) 4096) k.1 in
         good-in-turn (eqb-true _ _ k.0) (eqb-true _ _ l.0) (eqb-true _ _ l.1) (check-good (judged_of T sender) (judged-asks T sender) kind ticks plan o s.1),
     good-accepted,

@@ -2,7 +2,7 @@
 -- circuits they mark. No algorithm.
 use Rattle.std.specs.Prelude.{ℕ, ◌+◌, ◌-◌, ◌≤◌, ◌<◌, ◌≡◌, Bool, true, false, not, List, [], ◌∷◌, map, ◌⊎◌, leb, eqb, length}
 use Rattle.octets.specs.Octet.{octet}
-use Rattle.octets.specs.Choice.{if◌then◌else◌}
+use Rattle.octets.specs.Choice.{when◌then◌else◌}
 use Rattle.octets.specs.Answer.{Answer, accepted}
 use Rattle.layout.specs.Container.{bit}
 use Rattle.rows.specs.declared.Act.{Act}
@@ -37,8 +37,8 @@ fits_kind kind a = planned kind a.act a.block
 -- and marks the circuit that it names
 unfoldable pub marks_of : List ℕ → Ask → ℕ → Bool
 marks_of m a c =
-    if leb a.circuit c
-    then (if leb c (a.circuit + a.range) then mark_of m a.status (c - a.circuit)
+    when leb a.circuit c
+    then (when leb c (a.circuit + a.range) then mark_of m a.status (c - a.circuit)
     else false)
     else false
 

@@ -4,7 +4,7 @@
 -- tables are all that matters.
 use Rattle.std.specs.Prelude.{ℕ, ◌≤◌, ◌≡◌, Bool, true, false, List, [], ◌∷◌, eqb, length, replicate}
 use Rattle.octets.specs.Octet.{octet}
-use Rattle.octets.specs.Choice.{if◌then◌else◌}
+use Rattle.octets.specs.Choice.{when◌then◌else◌}
 use Rattle.octets.specs.Answer.{accepted}
 use Rattle.layout.specs.Container.{bit}
 use Rattle.rows.specs.Rows.{is_legal}
@@ -59,9 +59,9 @@ AllLegal states = (c : ℕ) → c ≤ 4095 → is_legal (octet states c) ≡ tru
 -- which circuits a plan of that kind may name: for maintenance those owned or
 -- helped, for hardware those owned
 unfoldable pub may_block_lem : ℕ → List ℕ → List ℕ → ℕ → ℕ → Bool
-may_block_lem kind owners helpers sender c = if eqb kind 0 then has_right owners helpers sender c else is_mine owners sender c
+may_block_lem kind owners helpers sender c = when eqb kind 0 then has_right owners helpers sender c else is_mine owners sender c
 
 -- the check on the hub's tables
 unfoldable pub check_at : Tables → List ℕ → ℕ → ℕ → List ℕ → Bool
 check_at T ticks sender kind plan =
-    if sized T then check_of (judged_of T sender) ticks kind plan else false
+    when sized T then check_of (judged_of T sender) ticks kind plan else false

@@ -10,7 +10,7 @@ use borrow.Author.Tests.{lt-ltb, le-ltb, eq-eqb, ne_eqb}
 use lib.Dec.{ltb}
 use lib.ListN.{length, get_or, take, drop, set, length-set, drop_of_length-le}
 use lib.Seq.{drop-cons, sets}
-use Rattle.octets.specs.Choice.{if◌then◌else◌}
+use Rattle.octets.specs.Choice.{when◌then◌else◌}
 use Rattle.octets.proofs.Filled.{sets-filled, take-filled}
 use Rattle.words.specs.Words.{pairs_of, octets_of}
 use Rattle.printing.specs.Sheet.{Sheet, sheet, put, pour}
@@ -38,7 +38,7 @@ unfolding put
 put_full octets at c h = rw (le-ltb at (length octets) h)
 
 -- by either choice the buffer keeps its length
-length-chosen : (t : Bool) (s : Sheet) (c : ℕ) → length (if t then sheet (set s.octets s.at c) (s.at + 1) else s).octets ≡ length s.octets
+length-chosen : (t : Bool) (s : Sheet) (c : ℕ) → length (when t then sheet (set s.octets s.at c) (s.at + 1) else s).octets ≡ length s.octets
 length-chosen true s c = length-set s.octets s.at c
 length-chosen false s c = refl
 

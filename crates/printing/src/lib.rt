@@ -1,5 +1,7 @@
 // A line of an answer, put together in a lent buffer: texts, numbers in decimal
 // digits, octets in hexadecimal ones.
+#![tactic(auto)]
+
 ghost use Rattle.std.specs.Prelude.{◌≡◌, ◌<◌};
 ghost use Rattle.printing.specs.Sheet.{sheet, put, pour};
 ghost use Rattle.printing.specs.Shown.{digit_of, decimal_in, decimal_of, hex_of};

@@ -1,4 +1,6 @@
 // Which circuits the sender may block, and whether a plan can mark a ticked circuit.
+#![tactic(auto)]
+
 ghost use Rattle.std.specs.Prelude.{◌≡◌};
 ghost use Rattle.rights.specs.Rights.{is_mine};
 ghost use Rattle.plans.specs.Plans.{ticked};

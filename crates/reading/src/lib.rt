@@ -1,6 +1,8 @@
 // The parts of a message, read by its shape row: each lies where its pointer
 // says, and no octet belongs to two.
 // A refusal is a number of document 01 with the octet that it is about.
+#![tactic(auto)]
+
 ghost use Rattle.std.specs.Prelude.{◌≡◌, ◌+◌, ◌≤◌, ◌<◌, length};
 ghost use Rattle.parts.specs.Told.{body_told};
 ghost use Rattle.layout.specs.Container.{run_from, pointed, variable_from_lem, variable_at_lem, optional_at_lem, variable_slot_lem, optional_slot_lem, end_of, container_of, parts_of};

@@ -1,5 +1,7 @@
 // Values that a person types: a decimal of at most 15 digits, as the f64
 // nearest to it, or the 64 bits of one.
+#![tactic(auto)]
+
 ghost use Rattle.std.specs.Prelude.{◌≡◌, false, ◌^◌, ◌≤◌, ◌<◌, length, drop};
 ghost use Rattle.std.specs.Float.{binary64};
 ghost use Rattle.std.specs.Float.Ieee.{of_bits, round};

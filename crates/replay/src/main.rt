@@ -2,22 +2,29 @@
 // ended. What a book is, what it comes to and what is said of it
 // is decided in the crates below; here octets are read, handed on and written.
 // Where standard input cannot be read, or the lines cannot be written, that is said on standard
-// error, and to whoever waits at descriptor 3, since a program has no status of its own.
+// error, and the status is 1 then.
+#![tactic(auto)]
+
 use book::Place;
-use libc::{STDERR_FILENO, STDIN_FILENO, STDOUT_FILENO};
+use std::io::{Read, Stdin};
+use std::process::ExitCode;
 
-// The descriptor at which a fault is told: `./replay` makes a status of it.
-const STATUS_FILENO: i32 = 3;
-
-// Says a fault on standard error, and that there was one at descriptor 3.
-fn tell(fault: &[u8]) {
-    io::write_all(STDERR_FILENO, fault);
-    io::write_all(STATUS_FILENO, b"1");
+// Where the book is when no more is read, and whether the input has ended there: a read that fails
+// ends it too.
+#[derive(Clone, Copy)]
+struct Ending {
+    place: Place,
+    whole: bool,
 }
 
-// Reads to the end and feeds what comes; answers where the book is then. A read
-// that fails ends the input, and is told.
+// Says a fault on standard error, where that can be written.
+fn tell(rt: &HostRuntime, fault: &str) {
+    let _ = rt.eprintln(fault);
+}
+
+// Reads to the end and feeds what comes; answers where the book is then.
 fn read_all(
+    mut input: Stdin,
     place: Place,
     chunk: &mut [u8],
     buffer: &mut [u8],
@@ -25,42 +32,57 @@ fn read_all(
     states: &mut [u8],
     accepted: &mut [u16],
     refused: &mut [u16],
-) -> Place {
+) -> Ending {
     let mut at = place;
-    let mut turns: u64 = 18446744073709551615;
-    while 0 < turns {
-        let got = libc::read(STDIN_FILENO, chunk);
-        if got < 0 {
-            tell(b"replay: standard input cannot be read\n");
-            return at;
+    for _ in 0..u64::MAX {
+        match input.read(chunk) {
+            Err(_) => {
+                return Ending {
+                    place: at,
+                    whole: false,
+                };
+            }
+            Ok(n) => {
+                if n == 0 {
+                    break;
+                }
+                at = feeding::feed(at, &chunk[..n], buffer, owners, states, accepted, refused);
+            }
         }
-        if got == 0 {
-            return at;
-        }
-        let n = io::count(got, chunk);
-        at = feeding::feed(at, &chunk[..n], buffer, owners, states, accepted, refused);
-        turns -= 1;
     }
-    at
+    Ending {
+        place: at,
+        whole: true,
+    }
 }
 
-// Writes the first n octets of what was put together. Where they cannot be written, that is told.
-fn write_out(out: &[u8], n: usize) {
+// Writes the first n octets of what was put together. Where they cannot be written, that is told,
+// and the answer is false.
+fn write_out(rt: &HostRuntime, out: &[u8], n: usize) -> bool {
     if n <= out.len() {
-        if io::write_all(STDOUT_FILENO, &out[0..n]) {
-            return;
+        if rt.write_all(&out[0..n]).is_ok() {
+            return true;
         }
     }
-    tell(b"replay: the lines could not be written\n");
+    tell(rt, "replay: the lines could not be written");
+    false
 }
 
-// Begins a day, reads all, and writes the report.
-fn run(owners: &mut [u8], states: &mut [u8], chunk: &mut [u8], out: &mut [u8]) {
+// Begins a day, reads all, and writes the report; answers whether there was no fault. Where the
+// input could not be read, that is told, and the report is of what was read before.
+fn run(
+    rt: &HostRuntime,
+    owners: &mut [u8],
+    states: &mut [u8],
+    chunk: &mut [u8],
+    out: &mut [u8],
+) -> bool {
     let mut buffer = [0u8; 268];
     let mut accepted = [0u16; 256];
     let mut refused = [0u16; 256];
     let start = opening::begin(owners, states, &mut accepted, &mut refused);
     let end = read_all(
+        rt.stdin(),
         start,
         chunk,
         &mut buffer,
@@ -69,14 +91,21 @@ fn run(owners: &mut [u8], states: &mut [u8], chunk: &mut [u8], out: &mut [u8]) {
         &mut accepted,
         &mut refused,
     );
-    let n = tallies::report(end, owners, states, &accepted, &refused, out);
-    write_out(out, n);
+    if !end.whole {
+        tell(rt, "replay: standard input cannot be read");
+    }
+    let n = tallies::report(end.place, owners, states, &accepted, &refused, out);
+    write_out(rt, out, n) && end.whole
 }
 
-fn main() {
-    let mut owners = io::buffer();
-    let mut states = io::buffer();
-    let mut chunk = io::large_buffer();
-    let mut out = io::large_buffer();
-    run(&mut owners, &mut states, &mut chunk, &mut out);
+fn main(rt: HostRuntime) -> ExitCode {
+    let mut owners = [0u8; 4096];
+    let mut states = [0u8; 4096];
+    let mut chunk = [0u8; 65536];
+    let mut out = [0u8; 65536];
+    if run(&rt, &mut owners, &mut states, &mut chunk, &mut out) {
+        ExitCode::SUCCESS
+    } else {
+        ExitCode::FAILURE
+    }
 }

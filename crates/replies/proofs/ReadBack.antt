@@ -11,7 +11,7 @@ use lib.Dec.{eqb}
 use lib.ListN.{length}
 use Rattle.octets.specs.Answer.{accepted}
 use Rattle.octets.specs.Octet.{octet}
-use Rattle.octets.specs.Choice.{if◌then◌else◌}
+use Rattle.octets.specs.Choice.{when◌then◌else◌}
 use Rattle.octets.proofs.Tabulate.{length-tabulate}
 use Rattle.layout.specs.declared.Row.TheVariants.{Has}
 use Rattle.isup.specs.Table.{shape_of}
@@ -89,8 +89,8 @@ alone octets circuit s r = (octets, [], sym (append-nil octets), r, refl)
 
 -- what answers RSC: RLC, or BLO and then RLC
 completion-reads : (circuit : ℕ) → circuit ≤ 4095 → (b : Bool)
-    → ReadInTurn (if b then headed circuit BLO (headed circuit RLC (0 ∷ [])) else headed circuit RLC (0 ∷ [])) circuit
-    (if b then saying BLO [] [] [] ∷ saying RLC [] [] [] ∷ [] else saying RLC [] [] [] ∷ [])
+    → ReadInTurn (when b then headed circuit BLO (headed circuit RLC (0 ∷ [])) else headed circuit RLC (0 ∷ [])) circuit
+    (when b then saying BLO [] [] [] ∷ saying RLC [] [] [] ∷ [] else saying RLC [] [] [] ∷ [])
 unfolding shape_of
 completion-reads circuit low true = (
   headed circuit BLO [],
@@ -120,7 +120,7 @@ answer-reads Query circuit range block group status low h k =
     alone _ circuit _ (states-formed circuit low CQR range ((range + 1) % 256) (states_from group 0 (range + 1)) (omega arith) refl (omega arith) (omega arith))
 
 -- what the desk has to send reads as BLO, or UBL, in the compact form, with that circuit
-pub notice-reads : (circuit : ℕ) (set : Bool) → circuit ≤ 4095 → ReadsAs (notice_of circuit set) circuit (saying (if set then BLO else UBL) [] [] [])
+pub notice-reads : (circuit : ℕ) (set : Bool) → circuit ≤ 4095 → ReadsAs (notice_of circuit set) circuit (saying (when set then BLO else UBL) [] [] [])
 unfolding shape_of
 notice-reads circuit true low = plain-formed circuit low BLO (omega arith) refl
 notice-reads circuit false low = plain-formed circuit low UBL (omega arith) refl

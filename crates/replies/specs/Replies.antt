@@ -1,7 +1,7 @@
 -- The octets of the answer: a message in the compact form, with the message's circuit in it.
 use Rattle.std.specs.Prelude.{ℕ, ◌+◌, ◌/◌, ◌%◌, Bool, List, [], ◌∷◌, eqb, length}
 use Rattle.octets.specs.Octet.{octet}
-use Rattle.octets.specs.Choice.{if◌then◌else◌}
+use Rattle.octets.specs.Choice.{when◌then◌else◌}
 use Rattle.octets.specs.Tabulate.{tabulate}
 use Rattle.octets.specs.Filled.{Done, done, room_for}
 use Rattle.marks.specs.Marks.{status_octet_lem, locked_octet_lem}
@@ -48,11 +48,11 @@ range_and_states range group = 2 ∷ 3 ∷ 1 ∷ range ∷ ((range + 1) % 256) �
 -- what answers RSC: RLC, which has the pointer 0, no optional part; where the circuit is locally
 -- blocked BLO stands before it
 abbrev pub completion : ℕ → ℕ → List ℕ
-completion circuit row = if eqb (local row) 1 then headed circuit BLO (headed circuit RLC (0 ∷ [])) else headed circuit RLC (0 ∷ [])
+completion circuit row = when eqb (local row) 1 then headed circuit BLO (headed circuit RLC (0 ∷ [])) else headed circuit RLC (0 ∷ [])
 
 -- R46. what the desk has to send: BLO where its own block is set, UBL where it is cleared
 abbrev pub notice_of : ℕ → Bool → List ℕ
-notice_of circuit set = headed circuit (if set then BLO else UBL) []
+notice_of circuit set = headed circuit (when set then BLO else UBL) []
 
 -- what answers an act: nothing answers IAM; RLC has the pointer 0, no optional part; BLA and UBA
 -- end with the type; GRA has range and status, by the rows; CGBA and CGUA have the indicator, then
@@ -80,7 +80,7 @@ sent octets buffer = done buffer (room_for buffer (length octets, octets))
 unfoldable pub reply_length : Act → ℕ → ℕ → ℕ
 reply_length Seize range row = 0
 reply_length Release range row = 4
-reply_length Reset range row = if eqb (local row) 1 then 7 else 4
+reply_length Reset range row = when eqb (local row) 1 then 7 else 4
 reply_length Block range row = 3
 reply_length Unblock range row = 3
 reply_length ResetGroup range row = 6 + width range

@@ -2,7 +2,7 @@
 use Rattle.std.specs.Prelude.{ℕ, ◌+◌, ◌≤◌, ◌<◌, ◌≡◌, false, List, [], ◌∷◌, ◌++◌, eqb, length}
 use Rattle.octets.specs.Octet.{octet}
 use Rattle.octets.specs.Answer.{accepted}
-use Rattle.octets.specs.Choice.{if◌then◌else◌}
+use Rattle.octets.specs.Choice.{when◌then◌else◌}
 use Rattle.isup.specs.declared.Message.{Message}
 use Rattle.isup.specs.Types.{RLC, BLO, BLA, UBA, CGBA, CGUA, GRA, CQR}
 use Rattle.isup.specs.Read.{read_of}
@@ -51,7 +51,7 @@ abbrev pub messages_to : Act → ℕ → ℕ → List ℕ → List ℕ → List 
 messages_to Seize range block group status = []
 messages_to Release range block group status = saying RLC [] [] [] ∷ []
 messages_to Reset range block group status =
-    if eqb (local (octet group 0)) 1 then saying BLO [] [] [] ∷ saying RLC [] [] [] ∷ []
+    when eqb (local (octet group 0)) 1 then saying BLO [] [] [] ∷ saying RLC [] [] [] ∷ []
     else saying RLC [] [] [] ∷ []
 messages_to Block range block group status = saying BLA [] [] [] ∷ []
 messages_to Unblock range block group status = saying UBA [] [] [] ∷ []

@@ -1,5 +1,7 @@
 // What answers an act: the octets of messages in the compact form, with the circuit that the act
 // named. Nothing here looks at owners, or changes a row.
+#![tactic(auto)]
+
 ghost use Rattle.std.specs.Prelude.{◌≡◌, [], ◌∷◌, ◌+◌, ◌≤◌, length};
 ghost use Rattle.std.proofs.lemmas.List.Edits.{sets};
 ghost use Rattle.octets.specs.Filled.{leaving};

@@ -11,7 +11,7 @@ use lib.Dec.{ltb, leb, eqb, leb-suc-suc}
 use lib.ListN.{length, take, drop, length-drop, length-append, replicate, length-map}
 use lib.Seq.{drop-drop, length-take-le, sets, sets-eq, take-take, drop_at, drop-append-le, take-append_seam}
 use Rattle.octets.specs.Octet.{octets}
-use Rattle.octets.specs.Choice.{if◌then◌else◌}
+use Rattle.octets.specs.Choice.{when◌then◌else◌}
 use Rattle.octets.proofs.Choice.{chosen, decided}
 use Rattle.words.specs.declared.Number.{Number}
 use Rattle.words.specs.declared.Number.TheVariants.{Is, Not}
@@ -31,7 +31,7 @@ use Rattle.requests.proofs.Steps.{fields-ended, fields-left, field-missing, fiel
 
 -- the words left after the word that ends at octet `at`
 abbrev rest_at : List ℕ → ℕ → List (List ℕ)
-rest_at line at = if leb (length line) at then [] else words_of (drop (at + 1) line)
+rest_at line at = when leb (length line) at then [] else words_of (drop (at + 1) line)
 
 -- the first word is what stands before the first space
 words-first : (line : List ℕ) → words_of line ≡ take (word_length line) line ∷ rest_at line (word_length line)
@@ -40,8 +40,8 @@ words-first [] = refl
 words-first (c ∷ cs) = go (eqb c 32) (words-first cs)
   where
     go : (t : Bool) → words_of cs ≡ take (word_length cs) cs ∷ rest_at cs (word_length cs)
-        → (if t then [] ∷ words_of cs else lettered c (words_of cs))
-        ≡ take (if t then 0 else suc (word_length cs)) (c ∷ cs) ∷ rest_at (c ∷ cs) (if t then 0 else suc (word_length cs))
+        → (when t then [] ∷ words_of cs else lettered c (words_of cs))
+        ≡ take (when t then 0 else suc (word_length cs)) (c ∷ cs) ∷ rest_at (c ∷ cs) (when t then 0 else suc (word_length cs))
     go true e = rw (lt-leb (suc (length cs)) 0 (omega arith)) refl
     go false e = let n : suc (word_length cs) + 1 ≡ suc (word_length cs + 1) = omega arith in rw (e, leb-suc-suc, n) refl
 
@@ -236,7 +236,7 @@ says-request which s fs h = rw (ne_eqb which 255 h, length-map fs (said_at s)) (
 -- whether no row has more than eight fields
 abbrev few : List Form → Bool
 few [] = true
-few (f ∷ fs) = if ltb 8 (length f.letters) then false else few fs
+few (f ∷ fs) = when ltb 8 (length f.letters) then false else few fs
 
 module _ (line : List ℕ) (at : ℕ) (h : at ≤ length line) where
   -- row by row
@@ -254,8 +254,8 @@ module _ (line : List ℕ) (at : ℕ) (h : at ≤ length line) where
       go : (t : Bool) (x : Found (List Field)) → told (fields_of (kinds_of f) 0 line at scratch 0).left x ≡ words_say (kinds_of f) 0 (rest_at line at)
           → says_of (first_form fs (suc i) line at scratch) ≡ asked_by_lem fs (suc i) (take at line) (rest_at line at)
           → says_of (first_form fs (suc i) line at (fields_of (kinds_of f) 0 line at scratch 0).left) ≡ asked_by_lem fs (suc i) (take at line) (rest_at line at)
-          → says_of (if t then tried i x (fields_of (kinds_of f) 0 line at scratch 0).left (λ left. first_form fs (suc i) line at left) else first_form fs (suc i) line at scratch)
-          ≡ (if t then or_else (words_say (kinds_of f) 0 (rest_at line at)) (asking i) (asked_by_lem fs (suc i) (take at line) (rest_at line at)) else asked_by_lem fs (suc i) (take at line) (rest_at line at))
+          → says_of (when t then tried i x (fields_of (kinds_of f) 0 line at scratch 0).left (λ left. first_form fs (suc i) line at left) else first_form fs (suc i) line at scratch)
+          ≡ (when t then or_else (words_say (kinds_of f) 0 (rest_at line at)) (asking i) (asked_by_lem fs (suc i) (take at line) (rest_at line at)) else asked_by_lem fs (suc i) (take at line) (rest_at line at))
       go false x e ih other = ih
       go true (found l) e ih other = says-request i _ l (λ z. omega arith) ∙ ap (λ y. or_else y (asking i) (asked_by_lem fs (suc i) (take at line) (rest_at line at))) e
       go true lost e ih other = other ∙ ap (λ y. or_else y (asking i) (asked_by_lem fs (suc i) (take at line) (rest_at line at))) e
@@ -271,7 +271,7 @@ request-says line scratch s = go (ltb 81920 (length line)) refl
     asked : asked_by_table (words_of line) ≡ asked_by_lem forms 0 (take (word_length line) line) (rest_at line (word_length line))
     asked = ap asked_by_table (words-first line)
 
-    go : (t : Bool) → ltb 81920 (length line) ≡ t → says_of (if t then taken bad scratch else first_form forms 0 line (word_end_lem line 0) scratch) ≡ (if t then nothing else asked_by_table (words_of line))
+    go : (t : Bool) → ltb 81920 (length line) ≡ t → says_of (when t then taken bad scratch else first_form forms 0 line (word_end_lem line 0) scratch) ≡ (when t then nothing else asked_by_table (words_of line))
     go true e = refl
     go false e =
         ap says_of words

@@ -8,7 +8,7 @@ use native.Mathlib.Omega.{arith}
 use borrow.Author.Tests.{ne_eqb, eqb-true, eqb-false, ltb-true, ltb-false}
 use lib.Dec.{ltb, eqb}
 use lib.ListN.{length, take}
-use Rattle.octets.specs.Choice.{if◌then◌else◌}
+use Rattle.octets.specs.Choice.{when◌then◌else◌}
 use Rattle.octets.proofs.Choice.{chosen}
 use Rattle.words.specs.Words.{same}
 use Rattle.fields.specs.declared.Field.{Field}
@@ -23,7 +23,7 @@ use Rattle.requests.specs.Along.{fields_of, request, bad, Asking, taken, taken_b
 -- whether each letter is one octet, and not 0
 abbrev small : List ℕ → Bool
 small [] = true
-small (c ∷ cs) = if eqb c 0 then false else if ltb c 256 then small cs else false
+small (c ∷ cs) = when eqb c 0 then false else when ltb c 256 then small cs else false
 
 -- letters that were packed come out as they are
 kinds-packed : (n : ℕ) (ls : List ℕ) → length ls ≤ n → small ls ≡ true → kinds_in n (letters_packed ls) ≡ map kind_of ls
@@ -36,7 +36,7 @@ kinds-packed (suc n) (c ∷ cs) h e =
     (λ x. ⊎_elim (λ y. step (eqb-false c 0 x.0) (ltb-true c 256 y.0) (kinds-packed n cs (omega arith) y.1)) (λ y. absurd (false≢true y.1)) (chosen (ltb c 256) x.1))
     (chosen (eqb c 0) e)
   where
-    step : (c ≡ 0 → ⊥) → c < 256 → kinds_in n (letters_packed cs) ≡ map kind_of cs → (if eqb (c + 256 * letters_packed cs) 0 then [] else kind_of ((c + 256 * letters_packed cs) % 256) ∷ kinds_in n ((c + 256 * letters_packed cs) / 256)) ≡ kind_of c ∷ map kind_of cs
+    step : (c ≡ 0 → ⊥) → c < 256 → kinds_in n (letters_packed cs) ≡ map kind_of cs → (when eqb (c + 256 * letters_packed cs) 0 then [] else kind_of ((c + 256 * letters_packed cs) % 256) ∷ kinds_in n ((c + 256 * letters_packed cs) / 256)) ≡ kind_of c ∷ map kind_of cs
     step z l ih =
         let r : (c + 256 * letters_packed cs) % 256 ≡ c = omega arith in
         let q : (c + 256 * letters_packed cs) / 256 ≡ letters_packed cs = omega arith in
@@ -45,31 +45,31 @@ kinds-packed (suc n) (c ∷ cs) h e =
 -- whether each word of the table has a key, and each row up to eight letters
 abbrev pub keyed : List Form → Bool
 keyed [] = true
-keyed (f ∷ fs) = if eqb (key_of f.word) 0 then false else if ltb 8 (length f.letters) then false else if small f.letters then keyed fs else false
+keyed (f ∷ fs) = when eqb (key_of f.word) 0 then false else when ltb 8 (length f.letters) then false else when small f.letters then keyed fs else false
 
 -- whether no row has a word with that key
 abbrev absent : ℕ → List Form → Bool
 absent key [] = true
-absent key (f ∷ fs) = if eqb key (key_of f.word) then false else absent key fs
+absent key (f ∷ fs) = when eqb key (key_of f.word) then false else absent key fs
 
 -- whether the next row alone may have a word with that key, and then fields
 abbrev alone : ℕ → List Form → Bool
 alone key [] = true
-alone key (f ∷ fs) = if eqb key (key_of f.word) then (if eqb (letters_packed f.letters) 0 then false else absent key fs) else absent key fs
+alone key (f ∷ fs) = when eqb key (key_of f.word) then (when eqb (letters_packed f.letters) 0 then false else absent key fs) else absent key fs
 
 -- whether each word has one form, or two that stand together
 abbrev pub paired : List Form → Bool
 paired [] = true
-paired (f ∷ fs) = if alone (key_of f.word) fs then paired fs else false
+paired (f ∷ fs) = when alone (key_of f.word) fs then paired fs else false
 
 -- what a line asks by the other form of its word
 abbrev pub by_longer : List ℕ → ℕ → Row → List ℕ → Asking
-by_longer line end r left = if eqb r.longer 0 then taken bad left else taken_by (r.which + 1) (fields_of (kinds_in 8 r.longer) 0 line end left 0)
+by_longer line end r left = when eqb r.longer 0 then taken bad left else taken_by (r.which + 1) (fields_of (kinds_in 8 r.longer) 0 line end left 0)
 
 -- what a line asks by its row
 abbrev pub by_row_lem : List ℕ → ℕ → List ℕ → Row → Asking
 by_row_lem line end scratch r =
-    if eqb r.which 255 then taken bad scratch
+    when eqb r.which 255 then taken bad scratch
     else tried r.which (fields_of (kinds_in 8 r.letters) 0 line end scratch 0).fit (fields_of (kinds_in 8 r.letters) 0 line end scratch 0).left (by_longer line end r)
 
 -- a row of the table, as the table has it
@@ -120,7 +120,7 @@ module _ (line : List ℕ) (end : ℕ) where
           let gone : absent (key_of (take end line)) (f ∷ fs) ≡ true = rw e a in
           rw none (none_first (f ∷ fs) (suc i) left g gone)
 
-      there : Keyed f fs → eqb (key_of (take end line)) (key_of f.word) ≡ true → (if eqb (letters_packed f.letters) 0 then false else absent (key_of (take end line)) fs) ≡ true → by_longer line end r left ≡ first_form (f ∷ fs) (suc i) line end left
+      there : Keyed f fs → eqb (key_of (take end line)) (key_of f.word) ≡ true → (when eqb (letters_packed f.letters) 0 then false else absent (key_of (take end line)) fs) ≡ true → by_longer line end r left ≡ first_form (f ∷ fs) (suc i) line end left
       there k e a =
           ⊎_elim (λ x. absurd (false≢true x.1))
           (λ x.
@@ -150,12 +150,12 @@ module _ (line : List ℕ) (end : ℕ) where
             (next-first fs i (record { which = i; letters = letters_packed f.letters; longer = letters_next fs (key_of (take end line)) }) refl refl k.2 b))
 
         go : (t : Bool) → eqb (key_of (take end line)) (key_of f.word) ≡ t → Keyed f fs → alone (key_of f.word) fs ≡ true → by_row_lem line end scratch (row_in fs (suc i) (key_of (take end line))) ≡ first_form fs (suc i) line end scratch
-            → by_row_lem line end scratch (if t then record { which = i; letters = letters_packed f.letters; longer = letters_next fs (key_of (take end line)) } else row_in fs (suc i) (key_of (take end line)))
-            ≡ (if t then tried i (fields_of (kinds_of f) 0 line end scratch 0).fit (fields_of (kinds_of f) 0 line end scratch 0).left (λ left. first_form fs (suc i) line end left) else first_form fs (suc i) line end scratch)
+            → by_row_lem line end scratch (when t then record { which = i; letters = letters_packed f.letters; longer = letters_next fs (key_of (take end line)) } else row_in fs (suc i) (key_of (take end line)))
+            ≡ (when t then tried i (fields_of (kinds_of f) 0 line end scratch 0).fit (fields_of (kinds_of f) 0 line end scratch 0).left (λ left. first_form fs (suc i) line end left) else first_form fs (suc i) line end scratch)
         go true e k a ih = here k (eqb-true _ _ e) a
         go false e k a ih = ih
 
         step : Keyed f fs → alone (key_of f.word) fs ≡ true → by_row_lem line end scratch (row_in fs (suc i) (key_of (take end line))) ≡ first_form fs (suc i) line end scratch
-            → by_row_lem line end scratch (if eqb (key_of (take end line)) (key_of f.word) then record { which = i; letters = letters_packed f.letters; longer = letters_next fs (key_of (take end line)) } else row_in fs (suc i) (key_of (take end line)))
-            ≡ (if same (take end line) f.word then tried i (fields_of (kinds_of f) 0 line end scratch 0).fit (fields_of (kinds_of f) 0 line end scratch 0).left (λ left. first_form fs (suc i) line end left) else first_form fs (suc i) line end scratch)
+            → by_row_lem line end scratch (when eqb (key_of (take end line)) (key_of f.word) then record { which = i; letters = letters_packed f.letters; longer = letters_next fs (key_of (take end line)) } else row_in fs (suc i) (key_of (take end line)))
+            ≡ (when same (take end line) f.word then tried i (fields_of (kinds_of f) 0 line end scratch 0).fit (fields_of (kinds_of f) 0 line end scratch 0).left (λ left. first_form fs (suc i) line end left) else first_form fs (suc i) line end scratch)
         step k a ih = rw (same_key (take end line) f.word k.0) (go (eqb (key_of (take end line)) (key_of f.word)) refl k a ih)

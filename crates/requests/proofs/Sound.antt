@@ -8,7 +8,7 @@ use native.Mathlib.Omega.{arith}
 use borrow.Author.Tests.{ltb-false}
 use lib.Dec.{ltb, eqb}
 use lib.ListN.{length, get_or, drop, replicate}
-use Rattle.octets.specs.Choice.{if◌then◌else◌}
+use Rattle.octets.specs.Choice.{when◌then◌else◌}
 use Rattle.octets.proofs.Choice.{chosen}
 use Rattle.words.specs.declared.Number.{Number}
 use Rattle.words.specs.declared.Number.TheVariants.{Is, Not}
@@ -112,7 +112,7 @@ unfolding asked_by_lem
 rows-sound all name ws [] i k = tt
 rows-sound all name ws (f ∷ fs) i k = go (same name f.word) (words_say (kinds_of f) 0 ws) refl (rows-sound all name ws fs (suc i) (suffix-tail all f fs i k))
   where
-    go : (t : Bool) (x : Found (List FieldSays)) → words_say (kinds_of f) 0 ws ≡ x → SoundIn all (asked_by_lem fs (suc i) name ws) → SoundIn all (if t then or_else x (asking i) (asked_by_lem fs (suc i) name ws) else asked_by_lem fs (suc i) name ws)
+    go : (t : Bool) (x : Found (List FieldSays)) → words_say (kinds_of f) 0 ws ≡ x → SoundIn all (asked_by_lem fs (suc i) name ws) → SoundIn all (when t then or_else x (asking i) (asked_by_lem fs (suc i) name ws) else asked_by_lem fs (suc i) name ws)
     go false x e ih = ih
     go true lost e ih = ih
     go true (found l) e ih = rw (suffix-head all f fs i k) (kept (replicate (8 - length l) unsaid) (l ++ replicate (8 - length l) unsaid) (kinds_of f) 0 ws 0 l e refl)
@@ -126,14 +126,14 @@ sound line = go (ltb 81920 (length line)) (words_of line)
     same-sound (asks which gs) s = s
     same-sound nothing s = tt
 
-    go : (t : Bool) (ws : List (List ℕ)) → SoundRequest (if t then nothing else asked_by_table ws)
+    go : (t : Bool) (ws : List (List ℕ)) → SoundRequest (when t then nothing else asked_by_table ws)
     go true ws = tt
     go false [] = tt
     go false (name ∷ ws) = same-sound (asked_by_lem forms 0 name ws) (rows-sound forms name ws forms 0 (suffix-all forms))
 
 -- the octets of a field, at the most: of a plan, and of any other
 abbrev pub octets_in : Bool → ℕ
-octets_in plan = if plan then plan_most else octets_most
+octets_in plan = when plan then plan_most else octets_most
 
 few-enough : (n : ℕ) (q : Bool) → n ≤ octets_most → n ≤ octets_in q
 few-enough n true h = omega arith
@@ -147,7 +147,7 @@ kind-short l before g = go (eqb l (letter "o")) (eqb l (letter "s")) (eqb l (let
     none : (q : Bool) → g.octets ≡ [] → length g.octets ≤ octets_in q
     none q e = few-enough (length g.octets) q (omega (arith, ap length e))
 
-    go : (o s q w t : Bool) → Keeps (if o then an_octet else if s then some_octets octets_most else if q then some_octets plan_most else if w then a_word else if t then a_last circuit_most else a_number (most_of l)) before g → length g.octets ≤ octets_in q
+    go : (o s q w t : Bool) → Keeps (when o then an_octet else when s then some_octets octets_most else when q then some_octets plan_most else when w then a_word else when t then a_last circuit_most else a_number (most_of l)) before g → length g.octets ≤ octets_in q
     go true s q w t h = none q h.1
     go false true q w t h = few-enough (length g.octets) q h
     go false false true w t h = h
@@ -168,7 +168,7 @@ short_none most (suc n) (suc i) = short_none most n i
 -- whether the fields of a row have so many octets at the most, by their letters
 abbrev letters_within : ℕ → List ℕ → Bool
 letters_within most [] = true
-letters_within most (c ∷ cs) = if ltb most (octets_in (eqb c (letter "q"))) then false else letters_within most cs
+letters_within most (c ∷ cs) = when ltb most (octets_in (eqb c (letter "q"))) then false else letters_within most cs
 
 short-said : (most : ℕ) (pad : List FieldSays) → ShortAll most pad → (ls : List ℕ) → letters_within most ls ≡ true → (before : ℕ) (ws : List (List ℕ)) (l : List FieldSays) → words_say (map kind_of ls) before ws ≡ found l → ShortAll most (l ++ pad)
 unfolding words_say
@@ -194,7 +194,7 @@ Short nothing = Unit {0}
 -- whether the fields of the rows from row i on have that many at the most
 abbrev rows_within : List Form → ℕ → Bool
 rows_within [] i = true
-rows_within (f ∷ fs) i = if letters_within (octets_in (eqb i CHECK)) f.letters then rows_within fs (suc i) else false
+rows_within (f ∷ fs) i = when letters_within (octets_in (eqb i CHECK)) f.letters then rows_within fs (suc i) else false
 
 rows_short : (name : List ℕ) (ws : List (List ℕ)) (fs : List Form) (i : ℕ) → rows_within fs i ≡ true → Short (asked_by_lem fs i name ws)
 unfolding asked_by_lem
@@ -203,7 +203,7 @@ rows_short name ws (f ∷ fs) i n =
     ⊎_elim (λ x. go x.0 (same name f.word) (words_say (kinds_of f) 0 ws) refl (rows_short name ws fs (suc i) x.1)) (λ x. absurd (false≢true x.1))
     (chosen (letters_within (octets_in (eqb i CHECK)) f.letters) n)
   where
-    go : letters_within (octets_in (eqb i CHECK)) f.letters ≡ true → (t : Bool) (x : Found (List FieldSays)) → words_say (kinds_of f) 0 ws ≡ x → Short (asked_by_lem fs (suc i) name ws) → Short (if t then or_else x (asking i) (asked_by_lem fs (suc i) name ws) else asked_by_lem fs (suc i) name ws)
+    go : letters_within (octets_in (eqb i CHECK)) f.letters ≡ true → (t : Bool) (x : Found (List FieldSays)) → words_say (kinds_of f) 0 ws ≡ x → Short (asked_by_lem fs (suc i) name ws) → Short (when t then or_else x (asking i) (asked_by_lem fs (suc i) name ws) else asked_by_lem fs (suc i) name ws)
     go k false x e ih = ih
     go k true lost e ih = ih
     go k true (found l) e ih = short-said (octets_in (eqb i CHECK)) (replicate (8 - length l) unsaid) (short_none (octets_in (eqb i CHECK)) (8 - length l)) f.letters k 0 ws l e
@@ -213,7 +213,7 @@ pub short : (line : List ℕ) → Short (asked_of line)
 unfolding asked_of asked_by_table
 short line = go (ltb 81920 (length line)) (words_of line)
   where
-    go : (t : Bool) (ws : List (List ℕ)) → Short (if t then nothing else asked_by_table ws)
+    go : (t : Bool) (ws : List (List ℕ)) → Short (when t then nothing else asked_by_table ws)
     go true ws = tt
     go false [] = tt
     go false (name ∷ ws) = rows_short name ws forms 0 refl

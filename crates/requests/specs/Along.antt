@@ -3,7 +3,7 @@
 -- into a lent scratch, one field after the other.
 use Rattle.std.specs.Prelude.{ℕ, suc, ◌+◌, ◌-◌, List, [], ◌∷◌, ◌++◌, map, ltb, leb, eqb, length, take, replicate}
 use Rattle.octets.specs.Octet.{octets}
-use Rattle.octets.specs.Choice.{if◌then◌else◌}
+use Rattle.octets.specs.Choice.{when◌then◌else◌}
 use Rattle.words.specs.declared.Number.{Number}
 use Rattle.words.specs.declared.Number.TheVariants.{Is, Not}
 use Rattle.words.specs.Words.{word_end_lem, same}
@@ -45,9 +45,9 @@ going Not left rest = along lost left
 -- for each kind, and the last ends the line
 unfoldable pub fields_of : List Kind → ℕ → List ℕ → ℕ → List ℕ → ℕ → Along
 fields_of [] before line at scratch next =
-    along (if eqb at (length line) then found [] else lost) scratch
+    along (when eqb at (length line) then found [] else lost) scratch
 fields_of (k ∷ ks) before line at scratch next =
-    if leb (length line) at then along lost scratch
+    when leb (length line) at then along lost scratch
     else going (entered k before (word_at line at) scratch next).count
     (entered k before (word_at line at) scratch next).left
     (λ v left. heading (placed k v next) (fields_of ks (placed k v next).value line (word_end_lem line (at + 1)) left (next + (placed k v next).count)))
@@ -84,7 +84,7 @@ tried which lost left rest = rest left
 unfoldable pub first_form : List Form → ℕ → List ℕ → ℕ → List ℕ → Asking
 first_form [] which line at scratch = taken bad scratch
 first_form (f ∷ fs) which line at scratch =
-    if same (take at line) f.word
+    when same (take at line) f.word
     then tried which (fields_of (kinds_of f) 0 line at scratch 0).fit
     (fields_of (kinds_of f) 0 line at scratch 0).left
     (λ left. first_form fs (suc which) line at left)
@@ -93,7 +93,7 @@ first_form (f ∷ fs) which line at scratch =
 -- what a line asks; one that is too long asks nothing
 unfoldable pub request_of_lem : List ℕ → List ℕ → Asking
 request_of_lem line scratch =
-    if ltb line_most (length line) then taken bad scratch
+    when ltb line_most (length line) then taken bad scratch
     else first_form forms 0 line (word_end_lem line 0) scratch
 
 -- what a field says, with its octets in the scratch
@@ -107,5 +107,5 @@ said_in scratch fs = map (said_at scratch) fs
 -- what is asked by a request and the scratch
 abbrev pub says_of : Asking → Asked
 says_of t =
-    if eqb t.request.which BAD then nothing
+    when eqb t.request.which BAD then nothing
     else asks t.request.which (said_in t.left t.request.fields)

@@ -2,7 +2,7 @@
 -- for each field of its form. `Along` says the same by places of the line, and the two
 -- agree (`request-says` of proofs/Agree.antt).
 use Rattle.std.specs.Prelude.{ℕ, suc, ◌-◌, ◌%◌, ◌≤◌, ◌≡◌, List, [], ◌∷◌, ◌++◌, ltb, eqb, length, get_or, replicate}
-use Rattle.octets.specs.Choice.{if◌then◌else◌}
+use Rattle.octets.specs.Choice.{when◌then◌else◌}
 use Rattle.words.specs.Words.{same}
 use Rattle.fields.specs.Kinds.{Kind, a_number, a_last, an_octet, some_octets, a_word, typed_most, FieldSays, unsaid, meaning, Found, found, lost, leading, onward, or_else}
 use Rattle.fields.specs.Letters.{octet_most}
@@ -25,7 +25,7 @@ lettered c (w ∷ ws) = (c ∷ w) ∷ ws
 -- word between them, and a space at an end has one beyond it
 unfoldable pub words_of : List ℕ → List (List ℕ)
 words_of [] = [] ∷ []
-words_of (c ∷ cs) = if eqb c 32 then [] ∷ words_of cs else lettered c (words_of cs)
+words_of (c ∷ cs) = when eqb c 32 then [] ∷ words_of cs else lettered c (words_of cs)
 
 -- what words say by the kinds of their fields: a word for each, and none is left
 unfoldable pub words_say : List Kind → ℕ → List (List ℕ) → Found (List FieldSays)
@@ -48,7 +48,7 @@ asking which gs = asks which (gs ++ replicate (fields_most - length gs) unsaid)
 unfoldable pub asked_by_lem : List Form → ℕ → List ℕ → List (List ℕ) → Asked
 asked_by_lem [] which name words = nothing
 asked_by_lem (f ∷ fs) which name words =
-    if same name f.word
+    when same name f.word
     then or_else (words_say (kinds_of f) 0 words) (asking which) (asked_by_lem fs (suc which) name words)
     else asked_by_lem fs (suc which) name words
 
@@ -59,7 +59,7 @@ asked_by_table (name ∷ words) = asked_by_lem forms 0 name words
 
 -- what a line asks; one that is too long asks nothing
 unfoldable pub asked_of : List ℕ → Asked
-asked_of line = if ltb line_most (length line) then nothing else asked_by_table (words_of line)
+asked_of line = when ltb line_most (length line) then nothing else asked_by_table (words_of line)
 
 -- the number of field i
 abbrev pub number_at : List FieldSays → ℕ → ℕ

@@ -1,5 +1,7 @@
 // Reading a message of any family and writing it again, over the width of the header, the longest
 // message and the shape row.
+#![tactic(auto)]
+
 ghost use Rattle.std.specs.Prelude.{◌≡◌, ◌≤◌, length};
 ghost use Rattle.octets.specs.Answer.{accepted};
 ghost use Rattle.octets.specs.Filled.{leaving};

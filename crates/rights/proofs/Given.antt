@@ -6,7 +6,7 @@ use mathlib.Core.List.{List}
 use native.Mathlib.Omega.{arith}
 use borrow.Author.Tests.{eq-eqb, ne_eqb, lt-ltb, le-ltb}
 use lib.ListN.{length}
-use Rattle.octets.specs.Choice.{if◌then◌else◌}
+use Rattle.octets.specs.Choice.{when◌then◌else◌}
 use Rattle.octets.specs.Answer.{Answer, accepted, refused}
 use Rattle.octets.proofs.Answer.{accepted-same, past-test}
 use Rattle.asks.specs.declared.Ask.{Ask}
@@ -38,14 +38,14 @@ permitted T sender b a e =
 pub owned-right : (owners helpers : List ℕ) (sender circuit n : ℕ) → is_found (first_unowned_lem owners sender circuit n) ≡ false → is_found (first_foreign_lem owners helpers sender circuit n) ≡ false
 owned-right owners helpers sender circuit n e =
     none_found (has_right owners helpers sender) circuit n
-    (λ j p q. let o = found_none (is_mine owners sender) circuit n e j p q in ap (λ (b : Bool). if b then true else is_mine helpers sender j) o)
+    (λ j p q. let o = found_none (is_mine owners sender) circuit n e j p q in ap (λ (b : Bool). when b then true else is_mine helpers sender j) o)
 
 module _ (owners helpers : List ℕ) (sender : ℕ) (a : Ask) where
   pub against-none : is_found (first_unowned_lem owners sender a.circuit (a.range + 1)) ≡ false → ◌≡◌ {A = ℕ} 0 (against_of owners helpers sender a)
   unfolding against_of
   against-none e = rw (owned-right owners helpers sender a.circuit (a.range + 1) e, e) (either (may_help a.act a.block))
     where
-      either : (b : Bool) → ◌≡◌ {A = ℕ} 0 (if b then 0 else 0)
+      either : (b : Bool) → ◌≡◌ {A = ℕ} 0 (when b then 0 else 0)
       either true = refl
       either false = refl
 
@@ -71,9 +71,9 @@ module _ (T : Tables) (sender : ℕ) (a : Ask) where
       go (is_found (first_foreign_lem T.owners T.helpers sender a.circuit (a.range + 1))) (may_help a.act a.block) (is_found (first_unowned_lem T.owners sender a.circuit (a.range + 1))) e
     where
       rest : Answer Ask
-      rest = if is_found (first_illegal_lem T.states a.circuit (a.range + 1)) then refused 20 0 else if is_taken T.states a.act a.circuit then refused 21 0 else accepted a
+      rest = when is_found (first_illegal_lem T.states a.circuit (a.range + 1)) then refused 20 0 else when is_taken T.states a.act a.circuit then refused 21 0 else accepted a
 
-      go : (f h u : Bool) → n ≡ (if f then 19 else if h then 0 else if u then 22 else 0) → refused n 0 ≡ (if f then refused 19 0 else if (if h then false else u) then refused 22 0 else rest)
+      go : (f h u : Bool) → n ≡ (when f then 19 else when h then 0 else when u then 22 else 0) → refused n 0 ≡ (when f then refused 19 0 else when (when h then false else u) then refused 22 0 else rest)
       go true h u e = ap (λ (k : ℕ). refused k 0) e
       go false true u e = absurd (z e)
       go false false true e = ap (λ (k : ℕ). refused k 0) e
@@ -85,7 +85,7 @@ module _ (T : Tables) (sender : ℕ) (a : Ask) where
   none-against e =
       go (is_found (first_foreign_lem T.owners T.helpers sender a.circuit (a.range + 1))) (may_help a.act a.block) (is_found (first_unowned_lem T.owners sender a.circuit (a.range + 1))) e
     where
-      go : (f h u : Bool) → ◌≡◌ {A = ℕ} 0 (if f then 19 else if h then 0 else if u then 22 else 0) → (f ≡ false) × ((if h then false else u) ≡ false)
+      go : (f h u : Bool) → ◌≡◌ {A = ℕ} 0 (when f then 19 else when h then 0 else when u then 22 else 0) → (f ≡ false) × ((when h then false else u) ≡ false)
       go true h u e = let z : ◌≡◌ {A = ℕ} 0 19 = e in absurd (omega arith)
       go false true u e = (refl, refl)
       go false false true e = let z : ◌≡◌ {A = ℕ} 0 22 = e in absurd (omega arith)

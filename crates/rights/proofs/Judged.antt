@@ -10,7 +10,7 @@ use borrow.Author.Tests.{eq-eqb, eqb-true, eqb-false, ltb-true, ltb-false}
 use lib.Dec.{ltb, eqb}
 use lib.ListN.{length}
 use Rattle.octets.specs.Octet.{octet}
-use Rattle.octets.specs.Choice.{if◌then◌else◌}
+use Rattle.octets.specs.Choice.{when◌then◌else◌}
 use Rattle.octets.specs.Among.{among, OneOf}
 use Rattle.octets.specs.Answer.{Answer, refused}
 use Rattle.octets.specs.Faults.{Fault, Judges, fault}
@@ -42,7 +42,7 @@ module _ (T : Tables) where
   sized-is : sized T ≡ true → (length T.states ≡ 4096) × (length T.owners ≡ 4096) × (length T.helpers ≡ 4096)
   sized-is t = go (eqb (length T.states) 4096) (eqb (length T.owners) 4096) refl refl t
     where
-      go : (b d : Bool) → eqb (length T.states) 4096 ≡ b → eqb (length T.owners) 4096 ≡ d → (if b then (if d then eqb (length T.helpers) 4096 else false) else false) ≡ true → (length T.states ≡ 4096) × (length T.owners ≡ 4096) × (length T.helpers ≡ 4096)
+      go : (b d : Bool) → eqb (length T.states) 4096 ≡ b → eqb (length T.owners) 4096 ≡ d → (when b then (when d then eqb (length T.helpers) 4096 else false) else false) ≡ true → (length T.states ≡ 4096) × (length T.owners ≡ 4096) × (length T.helpers ≡ 4096)
       go true true p q h = (eqb-true _ _ p, eqb-true _ _ q, eqb-true _ _ h)
       go true false p q h = absurd (true-false {t = false} h refl)
       go false d p q h = absurd (true-false {t = false} h refl)
@@ -50,13 +50,13 @@ module _ (T : Tables) where
   sized-not : sized T ≡ false → WrongTables T
   sized-not t = go (eqb (length T.states) 4096) (eqb (length T.owners) 4096) refl refl t
     where
-      go : (b d : Bool) → eqb (length T.states) 4096 ≡ b → eqb (length T.owners) 4096 ≡ d → (if b then (if d then eqb (length T.helpers) 4096 else false) else false) ≡ false → WrongTables T
+      go : (b d : Bool) → eqb (length T.states) 4096 ≡ b → eqb (length T.owners) 4096 ≡ d → (when b then (when d then eqb (length T.helpers) 4096 else false) else false) ≡ false → WrongTables T
       go true true p q h = inr (inr (eqb-false _ _ h))
       go true false p q h = inr (inl (eqb-false _ _ q))
       go false d p q h = inl (eqb-false _ _ p)
 
   -- 16 is the first fault, and tables of the right length go on
-  pub sized-judges : {A : Type 0} {y : Answer A} (fs : List Fault) → (sized T ≡ true → Judges y fs) → Judges (if sized T then y else refused 16 0) (fault 16 0 (WrongTables T) ∷ fs)
+  pub sized-judges : {A : Type 0} {y : Answer A} (fs : List Fault) → (sized T ≡ true → Judges y fs) → Judges (when sized T then y else refused 16 0) (fault 16 0 (WrongTables T) ∷ fs)
   sized-judges fs j =
       judges-choice (sized T)
       (λ t. let k = sized-is t in judges-absent _ (λ at h. ⊎_elim (λ n. n k.0) (λ o. ⊎_elim (λ n. n k.1) (λ n. n k.2) o) h.1) (j t))
@@ -149,7 +149,7 @@ module _ (T : Tables) (sender : ℕ) (m : List ℕ) (x : Message) (f : WellForme
   unfolding is_unhelpable
   only-helped t v = go (may_help a.act a.block) refl v
     where
-      go : (b : Bool) → may_help a.act a.block ≡ b → (if b then false else is_found (first_unowned_lem T.owners sender a.circuit (a.range + 1))) ≡ true → OnlyHelped T sender m x
+      go : (b : Bool) → may_help a.act a.block ≡ b → (when b then false else is_found (first_unowned_lem T.owners sender a.circuit (a.range + 1))) ≡ true → OnlyHelped T sender m x
       go true p h = absurd (true-false {t = false} h refl)
       go false p h =
           let s = found_some (is_mine T.owners sender) a.circuit (a.range + 1) h in
@@ -161,7 +161,7 @@ module _ (T : Tables) (sender : ℕ) (m : List ℕ) (x : Message) (f : WellForme
   unfolding is_unhelpable
   not-only-helped v w = go (may_help a.act a.block) refl v
     where
-      go : (b : Bool) → may_help a.act a.block ≡ b → (if b then false else is_found (first_unowned_lem T.owners sender a.circuit (a.range + 1))) ≡ false → ⊥
+      go : (b : Bool) → may_help a.act a.block ≡ b → (when b then false else is_found (first_unowned_lem T.owners sender a.circuit (a.range + 1))) ≡ false → ⊥
       go true p h = w.0 (may-help.0 p)
       go false p h =
           let q = named-so w.1.0 w.1.1 in

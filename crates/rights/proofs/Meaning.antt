@@ -9,7 +9,7 @@ use native.Mathlib.Nat.{eq-or-lt_of_le}
 use borrow.Author.Tests.{eqb-true, eqb-false, ltb-true, ltb-false}
 use lib.Dec.{eqb, ltb}
 use Rattle.octets.specs.Octet.{octet}
-use Rattle.octets.specs.Choice.{if◌then◌else◌}
+use Rattle.octets.specs.Choice.{when◌then◌else◌}
 use Rattle.octets.proofs.Choice.{decided, true-false}
 use Rattle.rights.specs.declared.Search.{Search}
 use Rattle.rights.specs.declared.Search.TheVariants.{At, Nowhere}
@@ -21,14 +21,14 @@ use Rattle.rights.specs.Names.{Mine, HasRight}
 pub mine-is : (owners : List ℕ) (sender circuit : ℕ) → is_mine owners sender circuit ≡ true → Mine owners sender circuit
 mine-is owners sender circuit e = go (eqb sender 0) refl e
   where
-    go : (b : Bool) → eqb sender 0 ≡ b → (if b then false else eqb (octet owners circuit) sender) ≡ true → Mine owners sender circuit
+    go : (b : Bool) → eqb sender 0 ≡ b → (when b then false else eqb (octet owners circuit) sender) ≡ true → Mine owners sender circuit
     go true p h = absurd (true-false {t = false} h refl)
     go false p h = (eqb-true _ _ h, eqb-false sender 0 p)
 
 pub not-mine : (owners : List ℕ) (sender circuit : ℕ) → is_mine owners sender circuit ≡ false → (octet owners circuit ≡ sender → ⊥) ⊎ (sender ≡ 0)
 not-mine owners sender circuit e = go (eqb sender 0) refl e
   where
-    go : (b : Bool) → eqb sender 0 ≡ b → (if b then false else eqb (octet owners circuit) sender) ≡ false → (octet owners circuit ≡ sender → ⊥) ⊎ (sender ≡ 0)
+    go : (b : Bool) → eqb sender 0 ≡ b → (when b then false else eqb (octet owners circuit) sender) ≡ false → (octet owners circuit ≡ sender → ⊥) ⊎ (sender ≡ 0)
     go true p h = inr (eqb-true sender 0 p)
     go false p h = inl (eqb-false _ _ h)
 
@@ -36,14 +36,14 @@ not-mine owners sender circuit e = go (eqb sender 0) refl e
 pub right_is : (T : Tables) (sender circuit : ℕ) → has_right T.owners T.helpers sender circuit ≡ true → HasRight T sender circuit
 right_is T sender circuit e = go (is_mine T.owners sender circuit) refl e
   where
-    go : (b : Bool) → is_mine T.owners sender circuit ≡ b → (if b then true else is_mine T.helpers sender circuit) ≡ true → HasRight T sender circuit
+    go : (b : Bool) → is_mine T.owners sender circuit ≡ b → (when b then true else is_mine T.helpers sender circuit) ≡ true → HasRight T sender circuit
     go true p h = inl (mine-is T.owners sender circuit p)
     go false p h = inr (mine-is T.helpers sender circuit h)
 
 pub not_right : (T : Tables) (sender circuit : ℕ) → has_right T.owners T.helpers sender circuit ≡ false → ((octet T.owners circuit ≡ sender → ⊥) × (octet T.helpers circuit ≡ sender → ⊥)) ⊎ (sender ≡ 0)
 not_right T sender circuit e = go (is_mine T.owners sender circuit) refl e
   where
-    go : (b : Bool) → is_mine T.owners sender circuit ≡ b → (if b then true else is_mine T.helpers sender circuit) ≡ false → ((octet T.owners circuit ≡ sender → ⊥) × (octet T.helpers circuit ≡ sender → ⊥)) ⊎ (sender ≡ 0)
+    go : (b : Bool) → is_mine T.owners sender circuit ≡ b → (when b then true else is_mine T.helpers sender circuit) ≡ false → ((octet T.owners circuit ≡ sender → ⊥) × (octet T.helpers circuit ≡ sender → ⊥)) ⊎ (sender ≡ 0)
     go true p h = absurd (true-false {t = true} refl h)
     go false p h = ⊎_elim (λ o. ⊎_elim (λ k. inl (o, k)) (λ z. inr z) (not-mine T.helpers sender circuit h)) (λ z. inr z) (not-mine T.owners sender circuit p)
 
@@ -67,7 +67,7 @@ module _ (good : ℕ → Bool) where
   }
   in-front circuit n e Nowhere m = λ j h l. front circuit (suc circuit + n) e m j h (omega arith)
 
-  step : (circuit n : ℕ) (b : Bool) → good circuit ≡ b → Means (suc circuit) n (first_not good (suc circuit) n) → Means circuit (suc n) (if b then first_not good (suc circuit) n else At circuit)
+  step : (circuit n : ℕ) (b : Bool) → good circuit ≡ b → Means (suc circuit) n (first_not good (suc circuit) n) → Means circuit (suc n) (when b then first_not good (suc circuit) n else At circuit)
   step circuit n true e m = in-front circuit n e (first_not good (suc circuit) n) m
   step circuit n false e m = record {
     from = omega arith;

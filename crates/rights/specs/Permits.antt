@@ -1,7 +1,7 @@
 -- What a sender may do on the circuits that are named. Order: 19, 22, 20, 21.
 use Rattle.std.specs.Prelude.{ℕ, ◌+◌, Bool, false, not, List, ltb, eqb}
 use Rattle.octets.specs.Octet.{octet}
-use Rattle.octets.specs.Choice.{if◌then◌else◌}
+use Rattle.octets.specs.Choice.{when◌then◌else◌}
 use Rattle.octets.specs.Answer.{Answer, accepted, refused}
 use Rattle.rows.specs.declared.Act.{Act}
 use Rattle.rows.specs.declared.Act.TheVariants.{Seize, Release, Reset, Block, Unblock, ResetGroup, BlockGroup, UnblockGroup, Query}
@@ -24,7 +24,7 @@ is_taken states Query circuit = false
 -- a named circuit is only helped by the sender, and the act is none that a helper may do
 unfoldable pub is_unhelpable : Tables → ℕ → Ask → Bool
 is_unhelpable T sender a =
-    if may_help a.act a.block then false
+    when may_help a.act a.block then false
     else is_found (first_unowned_lem T.owners sender a.circuit (a.range + 1))
 
 -- 19 where the sender has no right on a named circuit, 22 where it only helps one and
@@ -32,15 +32,15 @@ is_unhelpable T sender a =
 -- IAM on a circuit that is busy or blocked
 unfoldable pub permitted_of : Tables → ℕ → Ask → Answer Ask
 permitted_of T sender a =
-    if is_found (first_foreign_lem T.owners T.helpers sender a.circuit (a.range + 1)) then refused 19 0
-    else if is_unhelpable T sender a then refused 22 0
-    else if is_found (first_illegal_lem T.states a.circuit (a.range + 1)) then refused 20 0
-    else if is_taken T.states a.act a.circuit then refused 21 0
+    when is_found (first_foreign_lem T.owners T.helpers sender a.circuit (a.range + 1)) then refused 19 0
+    else when is_unhelpable T sender a then refused 22 0
+    else when is_found (first_illegal_lem T.states a.circuit (a.range + 1)) then refused 20 0
+    else when is_taken T.states a.act a.circuit then refused 21 0
     else accepted a
 
 -- the same of whatever is lent: 16 where a table has not 4096 octets, 18
 -- where the group passes circuit 4095
 unfoldable pub permitted_in : Tables → ℕ → Ask → Answer Ask
 permitted_in T sender a =
-    if sized T then (if ltb 4095 (a.circuit + a.range) then refused 18 0 else permitted_of T sender a)
+    when sized T then (when ltb 4095 (a.circuit + a.range) then refused 18 0 else permitted_of T sender a)
     else refused 16 0

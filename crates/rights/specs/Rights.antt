@@ -1,7 +1,7 @@
 -- Who has a right on the circuits that are named, and whether their rows are legal.
 use Rattle.std.specs.Prelude.{ℕ, zero, suc, ◌+◌, ◌≤◌, ◌<◌, ◌≡◌, Bool, true, false, List, eqb}
 use Rattle.octets.specs.Octet.{octet}
-use Rattle.octets.specs.Choice.{if◌then◌else◌}
+use Rattle.octets.specs.Choice.{when◌then◌else◌}
 use Rattle.rows.specs.declared.Act.{Act}
 use Rattle.rows.specs.declared.Act.TheVariants.{Seize, Release, Reset, Block, Unblock, ResetGroup, BlockGroup, UnblockGroup, Query}
 use Rattle.rows.specs.Rows.{is_legal}
@@ -11,11 +11,11 @@ use Rattle.rights.specs.declared.Search.TheVariants.{At, Nowhere}
 -- whether a table of owners, or of helpers, names the sender for the circuit:
 -- its octet is the sender, who is not 0
 abbrev pub is_mine : List ℕ → ℕ → ℕ → Bool
-is_mine table sender circuit = if eqb sender 0 then false else eqb (octet table circuit) sender
+is_mine table sender circuit = when eqb sender 0 then false else eqb (octet table circuit) sender
 
 -- whether the sender has a right on the circuit: it owns it or helps it
 abbrev pub has_right : List ℕ → List ℕ → ℕ → ℕ → Bool
-has_right owners helpers sender circuit = if is_mine owners sender circuit then true else is_mine helpers sender circuit
+has_right owners helpers sender circuit = when is_mine owners sender circuit then true else is_mine helpers sender circuit
 
 -- whether an act may be done by a helper: BLO, UBL, CQM, and CGB and CGU for maintenance
 unfoldable pub may_help : Act → ℕ → Bool
@@ -32,7 +32,7 @@ may_help Query block = true
 -- the first of the n circuits from `circuit` on that is not as it should be ends the search
 unfoldable pub first_not : (ℕ → Bool) → ℕ → ℕ → Search
 first_not good circuit zero = Nowhere
-first_not good circuit (suc n) = if good circuit then first_not good (suc circuit) n else At circuit
+first_not good circuit (suc n) = when good circuit then first_not good (suc circuit) n else At circuit
 
 -- the first circuit on which the sender has no right
 abbrev pub first_foreign_lem : List ℕ → List ℕ → ℕ → ℕ → ℕ → Search

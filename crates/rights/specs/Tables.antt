@@ -1,6 +1,6 @@
 -- The tables that the hub is lent, as one value: a further table is one field more.
 use Rattle.std.specs.Prelude.{List, Bool, false, ℕ, eqb, length}
-use Rattle.octets.specs.Choice.{if◌then◌else◌}
+use Rattle.octets.specs.Choice.{when◌then◌else◌}
 
 -- for each circuit one state octet, one ownership octet, and one octet that
 -- names its helper, 0 for none
@@ -16,5 +16,5 @@ tables states owners helpers = record { states = states; owners = owners; helper
 -- each has exactly 4096 octets
 abbrev pub sized : Tables → Bool
 sized T =
-    if eqb (length T.states) 4096 then (if eqb (length T.owners) 4096 then eqb (length T.helpers) 4096 else false)
+    when eqb (length T.states) 4096 then (when eqb (length T.owners) 4096 then eqb (length T.helpers) 4096 else false)
     else false

@@ -7,7 +7,7 @@ use mathlib.Core.Logic.{⊎_elim, ◌↔◌}
 use native.Mathlib.Omega.{arith}
 use lib.Dec.{eqb, ltb}
 use borrow.Author.Tests.{eqb-true, eqb-false, ltb-true}
-use Rattle.octets.specs.Choice.{if◌then◌else◌}
+use Rattle.octets.specs.Choice.{when◌then◌else◌}
 use Rattle.octets.specs.Among.{among, OneOf}
 use Rattle.octets.proofs.Among.{among_one, one-among}
 use Rattle.octets.proofs.Choice.{true-false}
@@ -26,9 +26,9 @@ is-legal row h = one-among row legal_rows h
 -- whether a test holds of each of a list
 abbrev pub each : (ℕ → Bool) → List ℕ → Bool
 each t [] = true
-each t (x ∷ xs) = if t x then each t xs else false
+each t (x ∷ xs) = when t x then each t xs else false
 
-first_holds : (a b : Bool) → (if a then b else false) ≡ true → (a ≡ true) × (b ≡ true)
+first_holds : (a b : Bool) → (when a then b else false) ≡ true → (a ≡ true) × (b ≡ true)
 first_holds true b e = (refl, e)
 first_holds false b e = absurd (true-false {t = false} e refl)
 
@@ -43,7 +43,7 @@ pub by-legal : (t : ℕ → Bool) → each t legal_rows ≡ true → (row : ℕ)
 by-legal t e row h = each_holds t legal_rows e row h
 
 -- either way
-choice-legal : (t : Bool) (x y : ℕ) → is_legal x ≡ true → is_legal y ≡ true → is_legal (if t then x else y) ≡ true
+choice-legal : (t : Bool) (x y : ℕ) → is_legal x ≡ true → is_legal y ≡ true → is_legal (when t then x else y) ≡ true
 choice-legal true x y p q = p
 choice-legal false x y p q = q
 

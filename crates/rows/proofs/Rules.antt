@@ -5,7 +5,7 @@ use mathlib.Core.Bool.{Bool, true, false}
 use native.Mathlib.Omega.{arith}
 use native.Mathlib.Nat.{add_assoc, div-div-eq-div-mul}
 use lib.Dec.{eqb}
-use Rattle.octets.specs.Choice.{if◌then◌else◌}
+use Rattle.octets.specs.Choice.{when◌then◌else◌}
 use Rattle.rows.specs.declared.Act.{Act}
 use Rattle.rows.specs.declared.Act.TheVariants.{Seize, Release, Reset, Block, Unblock, ResetGroup, BlockGroup, UnblockGroup, Query}
 use Rattle.rows.specs.Rows.{local, idled, cleared, with_maintenance, without_maintenance, with_hardware, without_hardware, blocked_row, unblocked_row, changed_row, local_row}
@@ -59,12 +59,12 @@ local-stays Unblock block row h = (unblocked-maintenance row).3
 local-stays ResetGroup block row h = (was-cleared row).3
 local-stays BlockGroup block row h = kept (eqb block 0)
   where
-    kept : (b : Bool) → local (if b then with_maintenance row else idled (with_hardware row)) ≡ local row
+    kept : (b : Bool) → local (when b then with_maintenance row else idled (with_hardware row)) ≡ local row
     kept true = (blocked-maintenance row).3
     kept false = (blocked-hardware row).3
 local-stays UnblockGroup block row h = kept (eqb block 0)
   where
-    kept : (b : Bool) → local (if b then without_maintenance row else without_hardware row) ≡ local row
+    kept : (b : Bool) → local (when b then without_maintenance row else without_hardware row) ≡ local row
     kept true = (unblocked-maintenance row).3
     kept false = (unblocked-hardware row).3
 local-stays Query block row h = refl

@@ -5,16 +5,16 @@ use mathlib.Core.Bool.{Bool, true, false}
 use native.Mathlib.Omega.{arith}
 use lib.Dec.{eqb}
 use borrow.Author.Tests.{eqb-true, eqb-false}
-use Rattle.octets.specs.Choice.{if◌then◌else◌}
+use Rattle.octets.specs.Choice.{when◌then◌else◌}
 use Rattle.rows.specs.Rows.{busy, maintenance, hardware, local, Legal, circuit_state_lem}
 use Rattle.rows.specs.States.{bits_ba, bits_dc, bits_fe, SaysOfRow}
 use Rattle.rows.proofs.Legality.{by-legal}
 
 -- a legal row that is blocked for hardware is not busy
 idle-where-broken : (row : ℕ) → Legal row → hardware row ≡ 1 → busy row ≡ 0
-idle-where-broken row h e = go (eqb (hardware row) 1) refl (by-legal (λ r. if eqb (hardware r) 1 then eqb (busy r) 0 else true) refl row h)
+idle-where-broken row h e = go (eqb (hardware row) 1) refl (by-legal (λ r. when eqb (hardware r) 1 then eqb (busy r) 0 else true) refl row h)
   where
-    go : (b : Bool) → eqb (hardware row) 1 ≡ b → (if b then eqb (busy row) 0 else true) ≡ true → busy row ≡ 0
+    go : (b : Bool) → eqb (hardware row) 1 ≡ b → (when b then eqb (busy row) 0 else true) ≡ true → busy row ≡ 0
     go true t w = eqb-true _ _ w
     go false t w = absurd (eqb-false _ _ t e)
 

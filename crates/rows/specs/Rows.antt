@@ -1,7 +1,7 @@
 -- What a row says and what becomes of it: 1 busy, 2 remotely blocked for maintenance, 4 for
 -- hardware, 8 locally blocked, added up.
 use Rattle.std.specs.Prelude.{ℕ, ◌+◌, ◌-◌, ◌*◌, ◌/◌, ◌%◌, Bool, List, [], ◌∷◌, eqb}
-use Rattle.octets.specs.Choice.{if◌then◌else◌}
+use Rattle.octets.specs.Choice.{when◌then◌else◌}
 use Rattle.octets.specs.Among.{among, OneOf}
 use Rattle.rows.specs.declared.Act.{Act}
 use Rattle.rows.specs.declared.Act.TheVariants.{Seize, Release, Reset, Block, Unblock, ResetGroup, BlockGroup, UnblockGroup, Query}
@@ -70,11 +70,11 @@ without_local row = row / 16 * 16 + row % 8
 
 -- a block of that kind set, and for hardware busy ended too
 unfoldable pub blocked_row : ℕ → ℕ → ℕ
-blocked_row block row = if eqb block 0 then with_maintenance row else idled (with_hardware row)
+blocked_row block row = when eqb block 0 then with_maintenance row else idled (with_hardware row)
 
 -- a block of that kind cleared
 unfoldable pub unblocked_row : ℕ → ℕ → ℕ
-unblocked_row block row = if eqb block 0 then without_maintenance row else without_hardware row
+unblocked_row block row = when eqb block 0 then without_maintenance row else without_hardware row
 
 -- what an act makes of a marked circuit's row; the kind of block comes with the acts on groups
 unfoldable pub changed_row : Act → ℕ → ℕ → ℕ
@@ -90,11 +90,11 @@ changed_row Query block row = row
 
 -- unmarked circuits stay
 abbrev pub row_of : Act → ℕ → Bool → ℕ → ℕ
-row_of act block marked row = if marked then changed_row act block row else row
+row_of act block marked row = when marked then changed_row act block row else row
 
 -- what the desk makes of a row: the 8 is set or cleared
 unfoldable pub local_row : Bool → ℕ → ℕ
-local_row set row = if set then with_local row else without_local row
+local_row set row = when set then with_local row else without_local row
 
 -- ---- what is told of it
 -- R44. the circuit state octet of a row (003, 3.12): idle 0C, busy 04, remotely blocked for

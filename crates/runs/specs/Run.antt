@@ -2,7 +2,7 @@
 -- closed by a 0 where a name would stand.
 use Rattle.std.specs.Prelude.{ℕ, zero, suc, ◌+◌, Bool, true, false, List, length, ltb, leb, eqb}
 use Rattle.octets.specs.Octet.{octet}
-use Rattle.octets.specs.Choice.{if◌then◌else◌}
+use Rattle.octets.specs.Choice.{when◌then◌else◌}
 use Rattle.runs.specs.declared.Step.{Step}
 use Rattle.runs.specs.declared.Step.TheVariants.{Param, Close, End, Pass}
 use Rattle.runs.specs.declared.Stop.{Stop}
@@ -19,9 +19,9 @@ next m i = i + 2 + octet m (i + 1)
 -- parameter that passes the end; a parameter
 unfoldable pub step_at_lem : List ℕ → ℕ → Step
 step_at_lem m i =
-    if leb (length m) i then End
-    else if eqb (octet m i) 0 then Close
-    else if ltb (length m) (next m i) then Pass
+    when leb (length m) i then End
+    else when eqb (octet m i) 0 then Close
+    else when ltb (length m) (next m i) then Pass
     else Param (record { name = octet m i; at = i + 2; len = octet m (i + 1) })
 
 -- go on past a parameter, or stop at i
@@ -52,7 +52,7 @@ is_run_lem r = ended (stop_from r 0)
 
 -- the first parameter of a name: go on past the others
 abbrev pub sought : ℕ → (ℕ → Found) → Step → Found
-sought name on (Param f) = if eqb f.name name then At f.at f.len else on (f.at + f.len)
+sought name on (Param f) = when eqb f.name name then At f.at f.len else on (f.at + f.len)
 sought name on Close = Nowhere
 sought name on End = Nowhere
 sought name on Pass = Nowhere

@@ -1,11 +1,13 @@
 // A run of optional parameters: name (not 0), length, contents, one after the other; in a message,
 // closed by a 0 where a name would stand.
 // Octets are numbered from 0.
+#![tactic(auto)]
+
 ghost use Rattle.std.specs.Prelude.{◌≡◌};
 ghost use Rattle.runs.specs.Run.{step_at_lem, stop_from, is_run_lem, named_from};
 
 // An optional parameter: its name, and where its contents are.
-#[derive(Drop)]
+#[derive(Clone, Copy)]
 pub struct Field {
     pub name: u8,
     pub at: usize,
@@ -14,7 +16,7 @@ pub struct Field {
 
 // What stands where a name would stand: a parameter; the 0 that closes a run; nothing, the octets
 // end there; or a parameter that passes their end.
-#[derive(Drop)]
+#[derive(Clone, Copy)]
 pub enum Step {
     Param(Field),
     Close,
@@ -23,7 +25,7 @@ pub enum Step {
 }
 
 // Where the contents of the parameter that was looked for start, and how many octets they have.
-#[derive(Drop)]
+#[derive(Clone, Copy)]
 pub enum Found {
     At(usize, usize),
     Nowhere,
@@ -31,7 +33,7 @@ pub enum Found {
 
 // How a run of parameters ends, and where: at a 0, at the end of the octets,
 // or at a parameter that passes it.
-#[derive(Drop)]
+#[derive(Clone, Copy)]
 pub enum Stop {
     Closed(usize),
     Ended(usize),

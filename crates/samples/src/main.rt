@@ -1,20 +1,21 @@
 // Shows each sample message of document 01 with its outcome: what the hub answers and
 // leaves in the rows, the called number, the compact form, the optional parameter, or
 // the refusal's number with its octet.
+#![tactic(auto)]
+
 use asks::Verdict;
 use finding::Located;
 use isup::Reading;
-use libc::STDOUT_FILENO;
 use number::NumberRead;
 use octets::Written;
 use rows::CIRCUITS;
+use std::io;
+use std::io::Stdout;
 
 // Makes each octet of a table that one.
 fn fill(table: &mut [u8], octet: u8) {
-    let mut i = 0;
-    while i < table.len() {
-        table[i] = octet;
-        i += 1;
+    for row in table.iter_mut() {
+        *row = octet;
     }
 }
 
@@ -166,226 +167,288 @@ fn put_found(message: &[u8], line: &mut [u8], at: usize) -> usize {
 }
 
 // Ends a line and writes it.
-fn write_line(line: &mut [u8], at: usize) {
+fn write_line(output: Stdout, line: &mut [u8], at: usize) -> io::Result<()> {
     let n = printing::put_octet(b'\n', line, at);
     if n <= line.len() {
-        io::write_all(STDOUT_FILENO, &line[0..n]);
+        return output.write_all(&line[0..n]);
     }
+    Ok(())
 }
 
 // Shows what the hub makes of a message.
 fn show_acted(
+    output: Stdout,
     message: &[u8],
     states: &mut [u8],
     owners: &[u8],
     helpers: &[u8],
     answer: &mut [u8],
     line: &mut [u8],
-) {
+) -> io::Result<()> {
     let at = printing::put_octets(message, line, 0);
     let end = put_acted(message, states, owners, helpers, answer, line, at);
-    write_line(line, end);
+    write_line(output, line, end)
 }
 
 // Shows the called number of a message.
-fn show_called(message: &[u8], signals: &mut [u8], line: &mut [u8]) {
+fn show_called(
+    output: Stdout,
+    message: &[u8],
+    signals: &mut [u8],
+    line: &mut [u8],
+) -> io::Result<()> {
     let at = printing::put_octets(message, line, 0);
     let end = put_called(message, signals, line, at);
-    write_line(line, end);
+    write_line(output, line, end)
 }
 
 // Shows the compact form of a message.
-fn show_compact(message: &[u8], out: &mut [u8], line: &mut [u8]) {
+fn show_compact(output: Stdout, message: &[u8], out: &mut [u8], line: &mut [u8]) -> io::Result<()> {
     let at = printing::put_octets(message, line, 0);
     let end = put_compact(message, out, line, at);
-    write_line(line, end);
+    write_line(output, line, end)
 }
 
 // Shows the optional parameter of a message.
-fn show_found(message: &[u8], line: &mut [u8]) {
+fn show_found(output: Stdout, message: &[u8], line: &mut [u8]) -> io::Result<()> {
     let at = printing::put_octets(message, line, 0);
     let end = put_found(message, line, at);
-    write_line(line, end);
+    write_line(output, line, end)
 }
 
 // Shows the paper's GRS and BLO.
 fn show_reset_and_block(
+    output: Stdout,
     states: &mut [u8],
     owners: &[u8],
     helpers: &[u8],
     answer: &mut [u8],
     line: &mut [u8],
-) {
+) -> io::Result<()> {
     show_acted(
+        output,
         b"\x05\x00\x17\x01\x01\x03",
         states,
         owners,
         helpers,
         answer,
         line,
-    );
-    show_acted(b"\x23\x01\x13", states, owners, helpers, answer, line);
+    )?;
+    show_acted(
+        output,
+        b"\x23\x01\x13",
+        states,
+        owners,
+        helpers,
+        answer,
+        line,
+    )
 }
 
 // Shows the paper's CGB and REL.
 fn show_group_and_release(
+    output: Stdout,
     states: &mut [u8],
     owners: &[u8],
     helpers: &[u8],
     answer: &mut [u8],
     line: &mut [u8],
-) {
+) -> io::Result<()> {
     show_acted(
+        output,
         b"\x08\x00\x18\x00\x01\x03\x09\x01\x02",
         states,
         owners,
         helpers,
         answer,
         line,
-    );
+    )?;
     show_acted(
+        output,
         b"\x01\x00\x0C\x02\x00\x02\x80\x90",
         states,
         owners,
         helpers,
         answer,
         line,
-    );
+    )
 }
 
 // Shows the paper's rows with contents that pass the end and with a pointer that breaks the rule.
 fn show_past_the_end(
+    output: Stdout,
     states: &mut [u8],
     owners: &[u8],
     helpers: &[u8],
     answer: &mut [u8],
     line: &mut [u8],
-) {
+) -> io::Result<()> {
     show_acted(
+        output,
         b"\x01\x00\x0C\x02\x00\x03\x80\x90",
         states,
         owners,
         helpers,
         answer,
         line,
-    );
+    )?;
     show_acted(
+        output,
         b"\x01\x00\x0C\x01\x00",
         states,
         owners,
         helpers,
         answer,
         line,
-    );
+    )
 }
 
 // Shows the paper's rows with a shared octet and with a part that is not closed.
 fn show_shared(
+    output: Stdout,
     states: &mut [u8],
     owners: &[u8],
     helpers: &[u8],
     answer: &mut [u8],
     line: &mut [u8],
-) {
+) -> io::Result<()> {
     show_acted(
+        output,
         b"\x01\x00\x0C\x02\x01\x01\x00\x00",
         states,
         owners,
         helpers,
         answer,
         line,
-    );
-    show_acted(b"\x01\x00\x09\x01", states, owners, helpers, answer, line);
+    )?;
+    show_acted(
+        output,
+        b"\x01\x00\x09\x01",
+        states,
+        owners,
+        helpers,
+        answer,
+        line,
+    )
 }
 
 // Shows the paper's two rows at the end of the table.
-fn show_last(states: &mut [u8], owners: &[u8], helpers: &[u8], answer: &mut [u8], line: &mut [u8]) {
+fn show_last(
+    output: Stdout,
+    states: &mut [u8],
+    owners: &[u8],
+    helpers: &[u8],
+    answer: &mut [u8],
+    line: &mut [u8],
+) -> io::Result<()> {
     show_acted(
+        output,
         b"\xE0\x0F\x17\x01\x01\x1F",
         states,
         owners,
         helpers,
         answer,
         line,
-    );
+    )?;
     show_acted(
+        output,
         b"\xFF\x0F\x17\x01\x01\x01",
         states,
         owners,
         helpers,
         answer,
         line,
-    );
+    )
 }
 
 // Shows the paper's rows on a called number, a compact form and an optional parameter.
-fn show_parts(answer: &mut [u8], line: &mut [u8]) {
+fn show_parts(output: Stdout, answer: &mut [u8], line: &mut [u8]) -> io::Result<()> {
     show_called(
+        output,
         b"\x01\x00\x01\x00\x60\x01\x0A\x00\x02\x00\x04\x03\x10\x21\x43",
         answer,
         line,
-    );
-    show_compact(b"\x01\x00\x09\x01\x00", answer, line);
-    show_found(b"\x01\x00\x09\x01\x20\x01\x41\x00", line);
-    show_found(b"\x01\x00\x09\x01\x20\x01\x41", line);
+    )?;
+    show_compact(output, b"\x01\x00\x09\x01\x00", answer, line)?;
+    show_found(output, b"\x01\x00\x09\x01\x20\x01\x41\x00", line)?;
+    show_found(output, b"\x01\x00\x09\x01\x20\x01\x41", line)
 }
 
 // Shows the paper's four rows that the hub accepts.
 fn show_accepted(
+    output: Stdout,
     states: &mut [u8],
     owners: &[u8],
     helpers: &[u8],
     answer: &mut [u8],
     line: &mut [u8],
-) {
-    show_reset_and_block(states, owners, helpers, answer, line);
-    show_group_and_release(states, owners, helpers, answer, line);
+) -> io::Result<()> {
+    show_reset_and_block(output, states, owners, helpers, answer, line)?;
+    show_group_and_release(output, states, owners, helpers, answer, line)
 }
 
 // Shows the paper's four rows that the reader refuses.
 fn show_refused(
+    output: Stdout,
     states: &mut [u8],
     owners: &[u8],
     helpers: &[u8],
     answer: &mut [u8],
     line: &mut [u8],
-) {
-    show_past_the_end(states, owners, helpers, answer, line);
-    show_shared(states, owners, helpers, answer, line);
+) -> io::Result<()> {
+    show_past_the_end(output, states, owners, helpers, answer, line)?;
+    show_shared(output, states, owners, helpers, answer, line)
 }
 
 // Shows the first eight, in the paper's order.
 fn show_first(
+    output: Stdout,
     states: &mut [u8],
     owners: &[u8],
     helpers: &[u8],
     answer: &mut [u8],
     line: &mut [u8],
-) {
-    show_accepted(states, owners, helpers, answer, line);
-    show_parts(answer, line);
+) -> io::Result<()> {
+    show_accepted(output, states, owners, helpers, answer, line)?;
+    show_parts(output, answer, line)
 }
 
 // Shows the other six.
 fn show_others(
+    output: Stdout,
     states: &mut [u8],
     owners: &[u8],
     helpers: &[u8],
     answer: &mut [u8],
     line: &mut [u8],
-) {
-    show_refused(states, owners, helpers, answer, line);
-    show_last(states, owners, helpers, answer, line);
+) -> io::Result<()> {
+    show_refused(output, states, owners, helpers, answer, line)?;
+    show_last(output, states, owners, helpers, answer, line)
 }
 
-fn main() {
-    let mut states = io::buffer();
-    let mut owners = io::buffer();
-    let mut helpers = io::buffer();
-    let mut answer = io::buffer();
-    let mut line = io::buffer();
+fn main(rt: HostRuntime) -> io::Result<()> {
+    let mut states = [0u8; 4096];
+    let mut owners = [0u8; 4096];
+    let mut helpers = [0u8; 4096];
+    let mut answer = [0u8; 4096];
+    let mut line = [0u8; 4096];
+    let output = rt.stdout();
     fill(&mut owners, 1);
     fill(&mut helpers, 0);
-    show_first(&mut states, &owners, &helpers, &mut answer, &mut line);
-    show_others(&mut states, &owners, &helpers, &mut answer, &mut line);
+    show_first(
+        output,
+        &mut states,
+        &owners,
+        &helpers,
+        &mut answer,
+        &mut line,
+    )?;
+    show_others(
+        output,
+        &mut states,
+        &owners,
+        &helpers,
+        &mut answer,
+        &mut line,
+    )
 }

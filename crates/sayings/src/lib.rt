@@ -1,5 +1,7 @@
 // What the lines of the answers have in common: a word with a number or with octets, a refusal,
 // what was written to a lent buffer.
+#![tactic(auto)]
+
 ghost use Rattle.std.specs.Prelude.{◌≡◌, ◌++◌};
 ghost use Rattle.octets.specs.Octet.{octets};
 ghost use Rattle.octets.specs.Told.{written_told};

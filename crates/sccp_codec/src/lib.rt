@@ -1,5 +1,7 @@
 // SCCP: the 18 types whose pointers have one octet, the reader and the writer.
 // No octet stands before the type.
+#![tactic(auto)]
+
 ghost use Rattle.std.specs.Prelude.{◌≡◌};
 ghost use Rattle.octets.specs.Filled.{leaving};
 ghost use Rattle.octets.specs.Told.{written_told};

@@ -1,6 +1,6 @@
 -- The lines of SCCP's requests: sccp-shape, sccp-read, sccp-write, sccp-compact.
 use Rattle.std.specs.Prelude.{ℕ, List, [], ◌∷◌, ◌++◌, eqb}
-use Rattle.octets.specs.Choice.{if◌then◌else◌}
+use Rattle.octets.specs.Choice.{when◌then◌else◌}
 use Rattle.octets.specs.Answer.{Answer, accepted, refused}
 use Rattle.parts.specs.declared.Parts.{Parts}
 use Rattle.parts.specs.Spans.{part_of}
@@ -32,8 +32,8 @@ type_line m (refused n at) = fault_line n at
 -- the line of a row of the family, by what its fields say; sccp-compact is its last
 unfoldable pub sccp_line_lem : ℕ → List FieldSays → List ℕ
 sccp_line_lem which gs =
-    if eqb which SCCP-SHAPE then shape_line (sccp_shape_of (octet_at_lem gs 0))
-    else if eqb which SCCP-READ then type_line (octets_at gs 0) (sccp_read_of (octets_at gs 0))
-    else if eqb which SCCP-WRITE
+    when eqb which SCCP-SHAPE then shape_line (sccp_shape_of (octet_at_lem gs 0))
+    else when eqb which SCCP-READ then type_line (octets_at gs 0) (sccp_read_of (octets_at gs 0))
+    else when eqb which SCCP-WRITE
     then octets_line (sccp_write_of (number_at gs 0) (octets_at gs 1) (octets_at gs 2) (octets_at gs 3) (octets_at gs 4) (octets_at gs 5) (lent (number_at gs 6)))
     else compact_line (sccp_compact_of (octets_at gs 0) (lent (number_at gs 1)))

@@ -1,4 +1,6 @@
 // What the desk answers to SCCP's requests: sccp-shape, sccp-read, sccp-write, sccp-compact.
+#![tactic(auto)]
+
 ghost use Rattle.std.specs.Prelude.{◌≡◌};
 ghost use Rattle.sccp.specs.Read.{sccp_read_of};
 ghost use Rattle.sccp.specs.Told.{sccp_told};

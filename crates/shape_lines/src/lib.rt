@@ -1,4 +1,6 @@
 // What the desk says of a type's shape.
+#![tactic(auto)]
+
 ghost use Rattle.std.specs.Prelude.{◌≡◌};
 ghost use Rattle.isup.specs.Table.{shape_of};
 ghost use Rattle.printing.specs.Sheet.{sheet, pour};

@@ -1,4 +1,6 @@
 // Called party numbers: the contents are read into values and signals.
+#![tactic(auto)]
+
 ghost use Rattle.std.specs.Prelude.{◌≡◌, ◌+◌, ◌*◌, ◌≤◌, length, drop};
 ghost use Rattle.std.proofs.lemmas.List.Edits.{sets};
 ghost use denote.Ref.{at_last};
@@ -66,13 +68,16 @@ fn read_high(contents: &&[u8], signals: &mut &mut [u8], at: usize, left: usize)
 
 // Reads all signals of a number, the low half of the first octet first: lends its buffer to the
 // steps, and leaves the signals at the front.
-fn read_signals(contents: &&[u8], mut signals: &mut [u8], count: usize)
+fn read_signals(contents: &&[u8], signals: &mut [u8], count: usize)
     requires { (count ≡ count_in contents.now.now) × (count_in contents.now.now ≤ 30)
         × (count_in contents.now.now ≤ length signals.old) }
     ensures { signals.new ≡
         sets signals.old 0 (signals_in contents.now.now) }
 {
-    read_low(contents, &mut signals, 0, count);
+    // Lent out of a tuple: that loan is one that Rattle follows home.
+    let mut place = (&mut *signals,);
+    let lent = &mut place;
+    read_low(contents, &mut lent.0, 0, count);
 }
 
 // Reads a number: its values are the answer and its signals fill the front of `signals`, one to an

@@ -1,4 +1,6 @@
 // Whether what is lent to the desk has the lengths that the desk's tables have.
+#![tactic(auto)]
+
 ghost use Rattle.std.specs.Prelude.{◌≡◌};
 ghost use Rattle.sizes.specs.Sizes.{desk_sized_by};
 

@@ -7,7 +7,7 @@ use native.Mathlib.Omega.{arith}
 use borrow.Author.Tests.{ltb-true, ltb-false}
 use lib.Dec.{ltb}
 use lib.ListN.{length, get_or, set, length-set}
-use Rattle.octets.specs.Choice.{if◌then◌else◌}
+use Rattle.octets.specs.Choice.{when◌then◌else◌}
 use Rattle.octets.specs.Applied.{applied}
 use Rattle.octets.proofs.Applied.{applied-beyond}
 use Rattle.spans.specs.Inside.{span_end}
@@ -24,7 +24,7 @@ pub end-reached : (f : ℕ → ℕ → ℕ) (first last : ℕ) (table : List ℕ
 unfolding span_end
 end-reached f first last table = go (ltb last (length table)) refl
   where
-    go : (t : Bool) → ltb last (length table) ≡ t → applied f first ((if t then last + 1 else length table) - first) table ≡ applied f first (last + 1 - first) table
+    go : (t : Bool) → ltb last (length table) ≡ t → applied f first ((when t then last + 1 else length table) - first) table ≡ applied f first (last + 1 - first) table
     go true e = refl
     go false e = let h = ltb-false last (length table) e in applied-cut f first (length table - first) (last + 1 - first) table (omega arith) (omega arith)
 
@@ -33,6 +33,6 @@ pub end-within : (n last place : ℕ) → place < span_end n last → place < n
 unfolding span_end
 end-within n last place = go (ltb last n) refl
   where
-    go : (t : Bool) → ltb last n ≡ t → place < (if t then last + 1 else n) → place < n
+    go : (t : Bool) → ltb last n ≡ t → place < (when t then last + 1 else n) → place < n
     go true e h = omega (arith, ltb-true last n e)
     go false e h = h

@@ -1,5 +1,7 @@
 // Makes a span of a table hold one octet, as the requests own, helper, set
 // and tick ask, and says so.
+#![tactic(auto)]
+
 ghost use Rattle.std.specs.Prelude.{◌≡◌, ◌%◌};
 ghost use Rattle.octets.specs.Applied.{spread};
 ghost use Rattle.words.specs.Said.{said};

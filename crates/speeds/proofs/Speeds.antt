@@ -10,7 +10,7 @@ use borrow.Author.Tests.{lt-ltb, ltb-true, ltb-false}
 use lib.Dec.{ltb}
 use lib.Ieee.{Float}
 use lib.ListN.{length, drop}
-use Rattle.octets.specs.Choice.{if◌then◌else◌}
+use Rattle.octets.specs.Choice.{when◌then◌else◌}
 use Rattle.octets.specs.Answer.{Answer, accepted, refused, ◌then◌}
 use Rattle.octets.specs.Filled.{Done, done, room_for}
 use Rattle.octets.specs.Faults.{Judges}
@@ -103,7 +103,7 @@ module _ (b s : ℕ) (values : List Float) where
   unfolding values_gives course_at
   read-no-speed h = go (ltb 359 b)
     where
-      go : (t : Bool) → valued 1703936 values ≡ values_by values (if t then refused 26 0 else if ltb 65535 s then refused 26 0 else accepted (course_of_lem b s))
+      go : (t : Bool) → valued 1703936 values ≡ values_by values (when t then refused 26 0 else when ltb 65535 s then refused 26 0 else accepted (course_of_lem b s))
       go true = refl
       go false = rw (lt-ltb _ _ h) refl
 
@@ -116,11 +116,11 @@ values-refused b s values = (λ e. go (ltb 359 b) (ltb 65535 s) refl refl e, bac
     back (inl h) = sym (ap (λ (x : Valued). x.value) (read-no-bearing b s values h))
     back (inr h) = sym (ap (λ (x : Valued). x.value) (read-no-speed b s values h))
 
-    room : (t : Bool) → (if t then valued (65536 * 13) values else valued 2 ((course_of_lem b s).bearing ∷ (course_of_lem b s).speed ∷ drop 2 values)).value ≡ 65536 * 26 → (359 < b) ⊎ (65535 < s)
+    room : (t : Bool) → (when t then valued (65536 * 13) values else valued 2 ((course_of_lem b s).bearing ∷ (course_of_lem b s).speed ∷ drop 2 values)).value ≡ 65536 * 26 → (359 < b) ⊎ (65535 < s)
     room true e = absurd (omega arith)
     room false e = absurd (omega arith)
 
-    go : (t u : Bool) → ltb 359 b ≡ t → ltb 65535 s ≡ u → (values_by values (if t then refused 26 0 else if u then refused 26 0 else accepted (course_of_lem b s))).value ≡ 65536 * 26 → (359 < b) ⊎ (65535 < s)
+    go : (t u : Bool) → ltb 359 b ≡ t → ltb 65535 s ≡ u → (values_by values (when t then refused 26 0 else when u then refused 26 0 else accepted (course_of_lem b s))).value ≡ 65536 * 26 → (359 < b) ⊎ (65535 < s)
     go true u p q e = inl (ltb-true 359 b p)
     go false true p q e = inr (ltb-true 65535 s q)
     go false false p q e = room (ltb (length values) 2) e
@@ -130,7 +130,7 @@ pub values-refuses : (b s : ℕ) (values : List Float) (r : ℕ) (left : List Fl
 unfolding values_gives
 values-refuses b s values r left e h = ap (λ (x : Valued). x.left) e ∙ go (course_at b s) (omega (arith, ap (λ (x : Valued). x.value) e))
   where
-    room : (c : Course) (t : Bool) → 65536 ≤ (if t then valued (65536 * 13) values else valued 2 (c.bearing ∷ c.speed ∷ drop 2 values)).value → (if t then valued (65536 * 13) values else valued 2 (c.bearing ∷ c.speed ∷ drop 2 values)).left ≡ values
+    room : (c : Course) (t : Bool) → 65536 ≤ (when t then valued (65536 * 13) values else valued 2 (c.bearing ∷ c.speed ∷ drop 2 values)).value → (when t then valued (65536 * 13) values else valued 2 (c.bearing ∷ c.speed ∷ drop 2 values)).left ≡ values
     room c true l = refl
     room c false l = absurd (omega arith)
 

@@ -1,6 +1,6 @@
 -- Velocities at the boundary: codes in a lent list of numbers, and values in a lent list of floats.
 use Rattle.std.specs.Prelude.{ℕ, ◌*◌, ◌<◌, List, [], ◌∷◌, ◌++◌, ltb, Float, length, drop}
-use Rattle.octets.specs.Choice.{if◌then◌else◌}
+use Rattle.octets.specs.Choice.{when◌then◌else◌}
 use Rattle.octets.specs.Answer.{Answer, accepted, refused, ◌then◌}
 use Rattle.octets.specs.Filled.{Done, done, room_for}
 use Rattle.octets.specs.Faults.{Fault, fault}
@@ -47,14 +47,14 @@ valued value left = record { value = value; left = left }
 -- what two numbers stand for as codes: 26 for a bearing above 359, and for a speed that no code is
 unfoldable pub course_at : ℕ → ℕ → Answer Course
 course_at b s =
-    if ltb 359 b then refused 26 0 else if ltb 65535 s then refused 26 0
+    when ltb 359 b then refused 26 0 else when ltb 65535 s then refused 26 0
     else accepted (course_of_lem b s)
 
 -- bearing and speed at the front of the lent values, or 13 where there is no
 -- room for both; a refusal keeps them
 abbrev pub values_by : List Float → Answer Course → Valued
 values_by values (accepted c) =
-    if ltb (length values) 2 then valued (65536 * 13) values
+    when ltb (length values) 2 then valued (65536 * 13) values
     else valued 2 (c.bearing ∷ c.speed ∷ drop 2 values)
 values_by values (refused n at) = valued (65536 * n) values
 

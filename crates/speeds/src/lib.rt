@@ -1,5 +1,7 @@
 // Velocities for C and Rust: the codes of measured values, and the values that codes stand for.
 // With `llachurep` and its like they are one library.
+#![tactic(auto)]
+
 ghost use Rattle.std.specs.Prelude.{◌≡◌};
 ghost use Rattle.velocity.specs.declared.Mark.TheVariants.{Upward};
 ghost use Rattle.velocity.specs.declared.Velocity.TheVariants.{Horizontal, WithVertical};

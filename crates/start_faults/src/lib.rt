@@ -1,4 +1,6 @@
 // What the reader says of a message of each family when stepping starts.
+#![tactic(auto)]
+
 ghost use Rattle.std.specs.Prelude.{◌≡◌};
 ghost use Rattle.layout.specs.Container.{parts_of};
 ghost use Rattle.family.specs.Family.{read_in};

@@ -1,4 +1,6 @@
 // Stepping over the optional parameters of a message from any octet of it.
+#![tactic(auto)]
+
 ghost use Rattle.std.specs.Prelude.{◌≡◌};
 ghost use Rattle.family.specs.Steps.{offer_at_lem, place_after_lem};
 

@@ -1,6 +1,8 @@
 // What the planner looks for before it writes, in one pass over the rows of the four tables.
+#![tactic(auto)]
+
 ghost use Rattle.std.specs.Prelude.{◌≡◌, true};
-ghost use Rattle.octets.specs.Choice.{if◌then◌else◌};
+ghost use Rattle.octets.specs.Choice.{when◌then◌else◌};
 ghost use Rattle.plans.specs.Plans.{ticked};
 ghost use Rattle.plans.specs.Turns.{may_block_lem};
 ghost use Rattle.surveys.specs.Surveys.{will_do_lem, survey_of};
@@ -18,7 +20,7 @@ fn stuck_with(
     c: usize,
 ) -> bool
     ensures { result ≡
-        (if will_do_lem kind (may_block_lem kind owners.now helpers.now sender) (ticked ticks.now) c then stuck else true) }
+        (when will_do_lem kind (may_block_lem kind owners.now helpers.now sender) (ticked ticks.now) c then stuck else true) }
 {
     if prospects::will_do(owners, helpers, ticks, sender, kind, c) {
         return stuck;

@@ -8,7 +8,7 @@ use native.Mathlib.Omega.{arith}
 use native.Mathlib.Nat.{zero-add, add-zero}
 use lib.ListN.{length, get_or-eq_default}
 use Rattle.octets.specs.Octet.{octet}
-use Rattle.octets.specs.Choice.{if◌then◌else◌}
+use Rattle.octets.specs.Choice.{when◌then◌else◌}
 use Rattle.layout.specs.Container.{bit}
 use Rattle.rows.specs.Rows.{is_legal}
 use Rattle.rights.specs.Rights.{is_mine, first_not, first_illegal_lem, is_found}
@@ -49,12 +49,12 @@ tally-most tick c (suc n) = omega (arith, bit-most (tick c), tally-most tick (su
 
 -- ---- the survey's one pass
 abbrev answer : Bool → Bool → ℕ → Survey
-answer illegal stuck n = if illegal then Illegal else (if stuck then Stuck else Ticked n)
+answer illegal stuck n = when illegal then Illegal else (when stuck then Stuck else Ticked n)
 
 module _ (states : List ℕ) (kind : ℕ) (can tick : ℕ → Bool) where
   -- what it answers, with a circuit stuck or not and m ticked so far, and n circuits from c on left
   unfoldable pub survey_from : Bool → ℕ → ℕ → ℕ → Survey
-  survey_from stuck m c n = answer (is_found (first_illegal_lem states c n)) (if stuck then true else is_found (first_not (will_do_lem kind can tick) c n)) (m + tick_count tick c n)
+  survey_from stuck m c n = answer (is_found (first_illegal_lem states c n)) (when stuck then true else is_found (first_not (will_do_lem kind can tick) c n)) (m + tick_count tick c n)
 
   pub pass-starts : survey_from false 0 0 (4096 - 0) ≡ survey_of states kind can tick
   unfolding survey_from survey_of is_stuck
@@ -82,16 +82,16 @@ module _ (states : List ℕ) (kind : ℕ) (can tick : ℕ → Bool) where
       pass_on t = rw (found-on (λ j. is_legal (octet states j)) c n k h e, found-on (will_do_lem kind can tick) c n k h (rw t), tally-on tick c n k 0 h (rw t), zero-add (tick_count tick (c + 1) k))
 
       -- this one is
-      pub pass-tick : (s : Bool) → tick c ≡ true → s ≡ (if will_do_lem kind can tick c then stuck else true) → survey_from stuck m c n ≡ survey_from s (m + 1) (c + 1) k
+      pub pass-tick : (s : Bool) → tick c ≡ true → s ≡ (when will_do_lem kind can tick c then stuck else true) → survey_from stuck m c n ≡ survey_from s (m + 1) (c + 1) k
       unfolding survey_from
       pass-tick s t q =
           let f = found-on (λ j. is_legal (octet states j)) c n k h e in
-          let g : (if stuck then true else is_found (first_not (will_do_lem kind can tick) c n)) ≡ (if s then true else is_found (first_not (will_do_lem kind can tick) (c + 1) k)) = sym (ap (λ (i : Bool). if i then true else is_found (first_not (will_do_lem kind can tick) (c + 1) k)) q ∙ go stuck (will_do_lem kind can tick c) refl) in
+          let g : (when stuck then true else is_found (first_not (will_do_lem kind can tick) c n)) ≡ (when s then true else is_found (first_not (will_do_lem kind can tick) (c + 1) k)) = sym (ap (λ (i : Bool). when i then true else is_found (first_not (will_do_lem kind can tick) (c + 1) k)) q ∙ go stuck (will_do_lem kind can tick c) refl) in
           let a : m + tick_count tick c n ≡ m + 1 + tick_count tick (c + 1) k = omega (arith, tally-on tick c n k 1 h (rw t)) in
           λ i. answer (f i) (g i) (a i)
         where
           go : (s w : Bool) → will_do_lem kind can tick c ≡ w
-              → (if (if w then s else true) then true else is_found (first_not (will_do_lem kind can tick) (c + 1) k)) ≡ (if s then true else is_found (first_not (will_do_lem kind can tick) c n))
+              → (when (when w then s else true) then true else is_found (first_not (will_do_lem kind can tick) (c + 1) k)) ≡ (when s then true else is_found (first_not (will_do_lem kind can tick) c n))
           go true true q = refl
           go true false q = refl
           go false true q = sym (found-on (will_do_lem kind can tick) c n k h q)

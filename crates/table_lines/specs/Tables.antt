@@ -2,7 +2,7 @@
 -- afterwards, and the answer's line.
 use Rattle.std.specs.Prelude.{ℕ, ◌+◌, ◌-◌, List, eqb}
 use Rattle.octets.specs.Octet.{octets}
-use Rattle.octets.specs.Choice.{if◌then◌else◌}
+use Rattle.octets.specs.Choice.{when◌then◌else◌}
 use Rattle.octets.specs.Applied.{spread}
 use Rattle.totals.specs.Blocks.{recounted}
 use Rattle.rights.specs.Tables.{Tables, tables}
@@ -60,10 +60,10 @@ set_turn D first last octet =
 -- and rows, the family's last
 unfoldable pub table_turn_lem : DeskTables → ℕ → List FieldSays → Turn
 table_turn_lem D which gs =
-    if eqb which OWN
+    when eqb which OWN
     then turn (desk_tables D.tables.states (spread D.tables.owners (number_at gs 0) (number_at gs 1) (octet_at_lem gs 2)) D.tables.helpers D.totals) (said "ok")
-    else if eqb which HELPER
+    else when eqb which HELPER
     then turn (desk_tables D.tables.states D.tables.owners (spread D.tables.helpers (number_at gs 0) (number_at gs 1) (octet_at_lem gs 2)) D.totals) (said "ok")
-    else if eqb which SET
+    else when eqb which SET
     then turn (set_turn D (number_at gs 0) (number_at gs 1) (octet_at_lem gs 2)) (said "ok")
     else turn D (rows_line D.tables.states (number_at gs 0) (number_at gs 1))

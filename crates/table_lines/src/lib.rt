@@ -1,5 +1,7 @@
 // What the desk answers to the requests of the tables (own, helper, set, rows),
 // and what they leave in the tables.
+#![tactic(auto)]
+
 ghost use Rattle.std.specs.Prelude.{◌≡◌, [], ◌+◌, ◌-◌};
 ghost use Rattle.octets.specs.Applied.{spread};
 ghost use Rattle.totals.specs.Blocks.{recounted};

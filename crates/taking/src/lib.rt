@@ -1,5 +1,7 @@
 // What a line asks of the desk, by a table of forms: a row for each request,
 // with its word and the kinds of its fields.
+#![tactic(auto)]
+
 ghost use Rattle.std.specs.Prelude.{◌≡◌};
 ghost use Rattle.forms.specs.Inside.{kinds_in};
 ghost use Rattle.requests.specs.Along.{bad, fields_of, taken, taken_by, request_of_lem};

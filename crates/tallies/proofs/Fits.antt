@@ -5,7 +5,7 @@ use mathlib.Core.List.{[], ◌∷◌, ◌++◌, List}
 use native.Mathlib.Omega.{arith}
 use lib.Dec.{ltb, eqb}
 use lib.ListN.{length, length-append, take}
-use Rattle.octets.specs.Choice.{if◌then◌else◌}
+use Rattle.octets.specs.Choice.{when◌then◌else◌}
 use Rattle.words.specs.Said.{said}
 use Rattle.printing.specs.Sheet.{sheet, pour}
 use Rattle.lines.proofs.Pouring.{poured-front}
@@ -23,7 +23,7 @@ unfolding decimal_in
 length-decimal zero n = omega arith
 length-decimal (suc k) n = go (ltb 9 n) (length-decimal k (n / 10))
   where
-    go : (b : Bool) → length (decimal_in k (n / 10)) ≤ k → length ((if b then decimal_in k (n / 10) else []) ++ ((48 + n % 10) ∷ [])) ≤ suc k
+    go : (b : Bool) → length (decimal_in k (n / 10)) ≤ k → length ((when b then decimal_in k (n / 10) else []) ++ ((48 + n % 10) ∷ [])) ≤ suc k
     go true h = omega (arith, length-append (decimal_in k (n / 10)) ((48 + n % 10) ∷ []))
     go false h = omega arith
 
@@ -39,7 +39,7 @@ length-numbers t =
 length-line : (q : ℕ) (t : Tally) → length (line_of q t) ≤ 55
 length-line q t = go (eqb t.messages 0)
   where
-    go : (b : Bool) → length (if b then [] else sender_line q t) ≤ 55
+    go : (b : Bool) → length (when b then [] else sender_line q t) ≤ 55
     go true = omega arith
     go false = omega (arith, length-append (decimal_of q) (four_numbers t), length-decimal 10 q, length-numbers t)
 
@@ -59,7 +59,7 @@ pub text-fits : (p : Place) (t : Day) → length (report_of p t) ≤ 16384
 unfolding text_of
 text-fits p t = go (day_sized t) (is_done p.awaits)
   where
-    go : (b c : Bool) → length (if b then (if c then lines_for (tally_in_lem t) else no_book) else no_book) ≤ 16384
+    go : (b c : Bool) → length (when b then (when c then lines_for (tally_in_lem t) else no_book) else no_book) ≤ 16384
     go true true = length-for (tally_in_lem t)
     go true false = omega (arith, length-refusal)
     go false c = omega (arith, length-refusal)

@@ -8,7 +8,7 @@ use native.Mathlib.Nat.{add-zero, zero-add}
 use borrow.Author.Tests.{eq-eqb, ne_eqb}
 use lib.Dec.{eqb}
 use Rattle.octets.specs.Octet.{octet}
-use Rattle.octets.specs.Choice.{if◌then◌else◌}
+use Rattle.octets.specs.Choice.{when◌then◌else◌}
 use Rattle.words.specs.Said.{said}
 use Rattle.printing.specs.Sheet.{Sheet, put, pour}
 use Rattle.printing.proofs.Pours.{pour-append, pour-one}
@@ -22,17 +22,17 @@ use Rattle.tallies.specs.Reports.{busy_of_lem, tally_in_lem, text_of, no_book, r
 use Rattle.lines.proofs.Pouring.{and_then}
 
 -- ---- a choice
-pub if-true : {A : Type 0} {t : Bool} (x y : A) → t ≡ true → (if t then x else y) ≡ x
-if-true x y e = ap (λ (b : Bool). if b then x else y) e
+pub if-true : {A : Type 0} {t : Bool} (x y : A) → t ≡ true → (when t then x else y) ≡ x
+if-true x y e = ap (λ (b : Bool). when b then x else y) e
 
-pub if-false : {A : Type 0} {t : Bool} (x y : A) → t ≡ false → (if t then x else y) ≡ y
-if-false x y e = ap (λ (b : Bool). if b then x else y) e
+pub if-false : {A : Type 0} {t : Bool} (x y : A) → t ≡ false → (when t then x else y) ≡ y
+if-false x y e = ap (λ (b : Bool). when b then x else y) e
 
 pub then-put : (s : Sheet) {u v : Sheet} (a : List ℕ) (c : ℕ) → u ≡ pour s a → v ≡ put u c → v ≡ pour s (a ++ (c ∷ []))
 then-put s {u} a c p q = and_then s a (c ∷ []) p (q ∙ pour-one u c)
 
 -- ---- busy circuits
-pub busy-more : (owners : List ℕ) (rows : Rows) (q c n d m : ℕ) {b : ℕ} → n ≡ suc m → d ≡ suc c → b ≡ (if eqb (octet owners c) q then busy_at_lem rows c else 0) → b + busy_of_lem owners rows q d m ≡ busy_of_lem owners rows q c n
+pub busy-more : (owners : List ℕ) (rows : Rows) (q c n d m : ℕ) {b : ℕ} → n ≡ suc m → d ≡ suc c → b ≡ (when eqb (octet owners c) q then busy_at_lem rows c else 0) → b + busy_of_lem owners rows q d m ≡ busy_of_lem owners rows q c n
 unfolding busy_of_lem
 busy-more owners rows q c n d m e f p = rw (e, f, p)
 
@@ -119,11 +119,11 @@ lines-all f s {u} sums p q r e =
 -- ---- the report
 pub report-lines : (p : Place) (t : Day) → day_sized t ≡ true → is_done p.awaits ≡ true → lines_for (tally_in_lem t) ≡ report_of p t
 unfolding text_of
-report-lines p t e d = λ i. if sym e i then (if sym d i then lines_for (tally_in_lem t) else no_book) else no_book
+report-lines p t e d = λ i. when sym e i then (when sym d i then lines_for (tally_in_lem t) else no_book) else no_book
 
 pub report-unsized : (p : Place) (t : Day) → day_sized t ≡ false → no_book ≡ report_of p t
-report-unsized p t e = λ i. if sym e i then text_of p.awaits t else no_book
+report-unsized p t e = λ i. when sym e i then text_of p.awaits t else no_book
 
 pub report-undone : (p : Place) (t : Day) → day_sized t ≡ true → is_done p.awaits ≡ false → no_book ≡ report_of p t
 unfolding text_of
-report-undone p t e d = λ i. if sym e i then (if sym d i then lines_for (tally_in_lem t) else no_book) else no_book
+report-undone p t e d = λ i. when sym e i then (when sym d i then lines_for (tally_in_lem t) else no_book) else no_book

@@ -1,7 +1,7 @@
 -- The lines of a day, from each sender's four numbers.
 use Rattle.std.specs.Prelude.{ℕ, ◌+◌, ◌≤◌, zero, suc, ◌*◌, List, [], ◌∷◌, ◌++◌, eqb}
 use Rattle.lines.specs.Lines.{counted}
-use Rattle.octets.specs.Choice.{if◌then◌else◌}
+use Rattle.octets.specs.Choice.{when◌then◌else◌}
 use Rattle.words.specs.Said.{said}
 use Rattle.printing.specs.Shown.{decimal_of}
 use Rattle.tallies.specs.declared.Tally.{Tally}
@@ -36,11 +36,11 @@ all_line t = said "all" ++ four_numbers t
 
 -- R63. the line of a sender that sent something
 abbrev pub line_of : ℕ → Tally → List ℕ
-line_of q t = if eqb t.messages 0 then [] else sender_line q t
+line_of q t = when eqb t.messages 0 then [] else sender_line q t
 
 -- its numbers, where there is a line of them
 abbrev pub shown_of : Tally → Tally
-shown_of t = if eqb t.messages 0 then tally 0 0 0 0 else t
+shown_of t = when eqb t.messages 0 then tally 0 0 0 0 else t
 
 -- the lines of the n senders from q on
 unfoldable pub lines_from : (ℕ → Tally) → ℕ → ℕ → List ℕ

@@ -1,4 +1,6 @@
 // The report of a day: a line for each sender that sent something, and a line of the sums.
+#![tactic(auto)]
+
 ghost use Rattle.std.specs.Prelude.{◌≡◌, eqb, ◌+◌, ◌%◌, ◌<◌, ◌≤◌, length};
 ghost use Rattle.printing.specs.Sheet.{sheet, pour};
 ghost use Rattle.book.specs.Awaits.{is_done};
@@ -6,12 +8,12 @@ ghost use Rattle.day.specs.Day.{day};
 ghost use Rattle.tallies.specs.Lines.{added, four_numbers, line_of, shown_of, lines_for, Below};
 ghost use Rattle.tallies.specs.Reports.{busy_of_lem, tally_in_lem, no_book, report_of};
 ghost use Rattle.octets.specs.Octet.{octet};
-ghost use Rattle.octets.specs.Choice.{if◌then◌else◌};
+ghost use Rattle.octets.specs.Choice.{when◌then◌else◌};
 
 use book::{Await, Place};
 
 // A sender's four numbers: messages, accepted, refused, circuits busy at the end.
-#[derive(Drop)]
+#[derive(Clone, Copy)]
 pub struct Tally {
     pub messages: usize,
     pub accepted: usize,
@@ -21,7 +23,7 @@ pub struct Tally {
 
 // 1 where a circuit is the sender's and busy.
 fn busy_at(owner: u8, state: u8, sender: u8) -> usize
-    ensures { (result ≡ (if eqb owner sender then state % 2 else 0)) × (result ≤ 1) }
+    ensures { (result ≡ (when eqb owner sender then state % 2 else 0)) × (result ≤ 1) }
 {
     if owner == sender {
         return (state % 2) as usize;

@@ -1,6 +1,8 @@
 // How the functions for C tell an answer by one number of 32 bits: 65536 * N + v,
 // where N is the refusal's number, 0 where there is none, and v what was accepted or
 // the octet that the refusal is about.
+#![tactic(auto)]
+
 ghost use Rattle.std.specs.Prelude.{◌≡◌, ◌+◌, ◌*◌, ◌%◌};
 ghost use Rattle.octets.specs.Told.{written_told};
 ghost use Rattle.telling.specs.Telling.{packed_low};

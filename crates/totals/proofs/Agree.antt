@@ -10,7 +10,7 @@ use native.Mathlib.Decide.{dec_lt}
 use borrow.Author.Tests.{lt-ltb, le-ltb}
 use lib.Dec.{ltb}
 use Rattle.octets.specs.Octet.{octet, AllOctets}
-use Rattle.octets.specs.Choice.{if◌then◌else◌}
+use Rattle.octets.specs.Choice.{when◌then◌else◌}
 use Rattle.octets.proofs.Sum.{total-none}
 use Rattle.rows.specs.Rows.{busy}
 use Rattle.totals.specs.Blocks.{busy_in, AllRight}
@@ -21,11 +21,11 @@ use Rattle.totals.proofs.Sums.{busy-most}
 use Rattle.totals.proofs.Spans.{total-by, one_span, two-spans, blocks-whole, total-octets}
 
 -- ---- which circuits are asked about, which blocks are whole, and which rows are loose
-neither : (t : Bool) → (if t then false else false) ≡ false
+neither : (t : Bool) → (when t then false else false) ≡ false
 neither true = refl
 neither false = refl
 
-unless : (t u : Bool) → u ≡ false → (if t then u else false) ≡ false
+unless : (t u : Bool) → u ≡ false → (when t then u else false) ≡ false
 unless true u e = e
 unless false u e = refl
 
@@ -41,40 +41,40 @@ module _ (a b : ℕ) where
 
   whole-yes : (k : ℕ) → first_whole a ≤ k → k < past_whole b → is_whole a b k ≡ true
   whole-yes k h l =
-      ap (λ (t : Bool). if t then is_asked a b (block_last k) else false) (asked-yes (block_first k) (omega arith) (omega arith))
+      ap (λ (t : Bool). when t then is_asked a b (block_last k) else false) (asked-yes (block_first k) (omega arith) (omega arith))
       ∙ asked-yes (block_last k) (omega arith) (omega arith)
 
   whole_below : (k : ℕ) → k < first_whole a → is_whole a b k ≡ false
-  whole_below k h = ap (λ (t : Bool). if t then is_asked a b (block_last k) else false) (asked-below (block_first k) (omega arith))
+  whole_below k h = ap (λ (t : Bool). when t then is_asked a b (block_last k) else false) (asked-below (block_first k) (omega arith))
 
   whole_above : (k : ℕ) → past_whole b ≤ k → is_whole a b k ≡ false
   whole_above k h = unless (is_asked a b (block_first k)) (is_asked a b (block_last k)) (asked-above (block_last k) (omega arith))
 
   loose-outside : (i : ℕ) → (i < a) ⊎ (b < i) → is_loose a b i ≡ false
   loose-outside i h =
-      ap (λ (t : Bool). if t then (if is_whole a b (i / 64) then false else true) else false)
+      ap (λ (t : Bool). when t then (when is_whole a b (i / 64) then false else true) else false)
       (⊎_elim (λ l. asked-below i l) (λ l. asked-above i l) h)
 
   loose-yes : (i : ℕ) → a ≤ i → i ≤ b → is_whole a b (i / 64) ≡ false → is_loose a b i ≡ true
   loose-yes i h k e =
-      ap (λ (t : Bool). if t then (if is_whole a b (i / 64) then false else true) else false) (asked-yes i h k)
-      ∙ ap (λ (t : Bool). if t then false else true) e
+      ap (λ (t : Bool). when t then (when is_whole a b (i / 64) then false else true) else false) (asked-yes i h k)
+      ∙ ap (λ (t : Bool). when t then false else true) e
 
   loose-no : (i : ℕ) → is_whole a b (i / 64) ≡ true → is_loose a b i ≡ false
-  loose-no i e = unless (is_asked a b i) (if is_whole a b (i / 64) then false else true) (ap (λ (t : Bool). if t then false else true) e)
+  loose-no i e = unless (is_asked a b i) (when is_whole a b (i / 64) then false else true) (ap (λ (t : Bool). when t then false else true) e)
 
 -- ---- the sums over all of them
-taken : (t : Bool) (v : ℕ) → t ≡ true → (if t then v else 0) ≡ v
-taken t v e = ap (λ (s : Bool). if s then v else 0) e
+taken : (t : Bool) (v : ℕ) → t ≡ true → (when t then v else 0) ≡ v
+taken t v e = ap (λ (s : Bool). when s then v else 0) e
 
-passed : (t : Bool) (v : ℕ) → t ≡ false → (if t then v else 0) ≡ 0
-passed t v e = ap (λ (s : Bool). if s then v else 0) e
+passed : (t : Bool) (v : ℕ) → t ≡ false → (when t then v else 0) ≡ 0
+passed t v e = ap (λ (s : Bool). when s then v else 0) e
 
 -- with whole blocks
 with-whole : (row whole : ℕ → ℕ) (a b : ℕ) → b ≤ 4095 → first_whole a < past_whole b → looked_at row whole a b ≡ loose_and_whole row whole a b
 with-whole row whole a b k l =
     let rows =
-    two-spans (λ i. if is_loose a b i then row i else 0) row a (64 * first_whole a) (64 * past_whole b) (b + 1) 4096
+    two-spans (λ i. when is_loose a b i then row i else 0) row a (64 * first_whole a) (64 * past_whole b) (b + 1) 4096
     (omega arith) (omega arith) (omega arith) (omega arith)
     (λ i p. passed (is_loose a b i) (row i) (loose-outside a b i (inl p)))
     (λ i p q. taken (is_loose a b i) (row i) (loose-yes a b i p (omega arith) (whole_below a b (i / 64) (omega arith))))
@@ -82,7 +82,7 @@ with-whole row whole a b k l =
     (λ i p q. taken (is_loose a b i) (row i) (loose-yes a b i (omega arith) (omega arith) (whole_above a b (i / 64) (omega arith))))
     (λ i p q. passed (is_loose a b i) (row i) (loose-outside a b i (inr (omega arith)))) in
     let blocks =
-    one_span (λ j. if is_whole a b j then whole j else 0) whole (first_whole a) (past_whole b) 64
+    one_span (λ j. when is_whole a b j then whole j else 0) whole (first_whole a) (past_whole b) 64
     (omega arith) (omega arith)
     (λ j p. passed (is_whole a b j) (whole j) (whole_below a b j p))
     (λ j p q. taken (is_whole a b j) (whole j) (whole-yes a b j p q))
@@ -94,12 +94,12 @@ with-whole row whole a b k l =
 with_none : (row whole : ℕ → ℕ) (a b : ℕ) → a ≤ b → b ≤ 4095 → past_whole b ≤ first_whole a → looked_at row whole a b ≡ loose_and_whole row whole a b
 with_none row whole a b h k l =
     let rows =
-    one_span (λ i. if is_loose a b i then row i else 0) row a (b + 1) 4096
+    one_span (λ i. when is_loose a b i then row i else 0) row a (b + 1) 4096
     (omega arith) (omega arith)
     (λ i p. passed (is_loose a b i) (row i) (loose-outside a b i (inl p)))
     (λ i p q. taken (is_loose a b i) (row i) (loose-yes a b i p (omega arith) (no_block (i / 64))))
     (λ i p q. passed (is_loose a b i) (row i) (loose-outside a b i (inr (omega arith)))) in
-    let blocks = total-none (λ j. if is_whole a b j then whole j else 0) 0 64 (λ j p. passed (is_whole a b (0 + j)) (whole (0 + j)) (no_block (0 + j))) in
+    let blocks = total-none (λ j. when is_whole a b j then whole j else 0) 0 64 (λ j p. passed (is_whole a b (0 + j)) (whole (0 + j)) (no_block (0 + j))) in
     let sums = looked-loose row whole a b l in
     omega (arith, rows, blocks, sums)
   where

@@ -9,7 +9,7 @@ use borrow.Author.Tests.{ltb-true, ltb-false, eqb-true, eqb-false}
 use lib.Dec.{ltb, eqb}
 use lib.ListN.{length}
 use Rattle.octets.specs.Octet.{octet, AllOctets}
-use Rattle.octets.specs.Choice.{if◌then◌else◌}
+use Rattle.octets.specs.Choice.{when◌then◌else◌}
 use Rattle.octets.specs.Answer.{Answer, accepted, refused}
 use Rattle.octets.specs.Faults.{Fault, Judges, fault}
 use Rattle.octets.specs.Filled.{Done, leaving}
@@ -24,34 +24,34 @@ use Rattle.totals.proofs.Recounted.{recounted-right}
 
 -- a rebuild by the test for 16
 abbrev rebuilt_by : List ℕ → List ℕ → Bool → Done ℕ
-rebuilt_by states totals t = if t then leaving (accepted 64) (all_counted states totals) else leaving (refused 16 0) totals
+rebuilt_by states totals t = when t then leaving (accepted 64) (all_counted states totals) else leaving (refused 16 0) totals
 
 -- ---- 16
 module _ (states totals : List ℕ) where
   sized-is : sized_totals states totals ≡ true → (length states ≡ 4096) × (length totals ≡ 64)
   sized-is e = go (eqb (length states) 4096) refl e
     where
-      go : (t : Bool) → eqb (length states) 4096 ≡ t → (if t then eqb (length totals) 64 else false) ≡ true → (length states ≡ 4096) × (length totals ≡ 64)
+      go : (t : Bool) → eqb (length states) 4096 ≡ t → (when t then eqb (length totals) 64 else false) ≡ true → (length states ≡ 4096) × (length totals ≡ 64)
       go true t h = (eqb-true _ _ t, eqb-true _ _ h)
       go false t h = absurd (true-false {t = false} h refl)
 
   sized-not : sized_totals states totals ≡ false → WrongSizes states totals
   sized-not e = go (eqb (length states) 4096) refl e
     where
-      go : (t : Bool) → eqb (length states) 4096 ≡ t → (if t then eqb (length totals) 64 else false) ≡ false → WrongSizes states totals
+      go : (t : Bool) → eqb (length states) 4096 ≡ t → (when t then eqb (length totals) 64 else false) ≡ false → WrongSizes states totals
       go true t h = inr (eqb-false _ _ h)
       go false t h = inl (eqb-false _ _ t)
 
   -- 16 is the first fault, and what is sized goes on
   sized-judges : {A : Type 0} {y : Answer A} (fs : List Fault) → (sized_totals states totals ≡ true → Judges y fs)
-      → Judges (if sized_totals states totals then y else refused 16 0) (fault 16 0 (WrongSizes states totals) ∷ fs)
+      → Judges (when sized_totals states totals then y else refused 16 0) (fault 16 0 (WrongSizes states totals) ∷ fs)
   sized-judges fs j =
       judges-choice (sized_totals states totals)
       (λ t. judges-absent _ (λ at h. (let s = sized-is t in ⊎_elim (λ n. n s.0) (λ n. n s.1) h.1)) (j t))
       (λ t. judges-there (fault 16 0 (WrongSizes states totals)) fs 0 (refl, sized-not t) (λ at h. h.0))
 
   -- ---- a rebuild
-  rebuild-answer : (t : Bool) → (rebuilt_by states totals t).answer ≡ (if t then accepted 64 else refused 16 0)
+  rebuild-answer : (t : Bool) → (rebuilt_by states totals t).answer ≡ (when t then accepted 64 else refused 16 0)
   rebuild-answer true = refl
   rebuild-answer false = refl
 
@@ -100,7 +100,7 @@ module _ (states totals : List ℕ) where
     unfolding busy_between_lem
     busy-accepted c e = go (sized_totals states totals) e
       where
-        go : (t : Bool) → (if t then (if ltb 4095 b then refused 9 0 else if ltb b a then refused 18 0 else accepted (count_between_lem states totals a b)) else refused 16 0) ≡ accepted c
+        go : (t : Bool) → (when t then (when ltb 4095 b then refused 9 0 else when ltb b a then refused 18 0 else accepted (count_between_lem states totals a b)) else refused 16 0) ≡ accepted c
             → (a ≤ b) × (b ≤ 4095) × (count_between_lem states totals a b ≡ c)
         go true h =
             let p = past-test 9 0 (ltb 4095 b) h in

@@ -7,7 +7,7 @@ use borrow.Author.Tests.{eq-eqb}
 use lib.Dec.{ltb}
 use lib.ListN.{length, set, replicate}
 use Rattle.octets.specs.Octet.{octet}
-use Rattle.octets.specs.Choice.{if◌then◌else◌}
+use Rattle.octets.specs.Choice.{when◌then◌else◌}
 use Rattle.octets.specs.Answer.{Answer, accepted, refused}
 use Rattle.octets.specs.Sum.{total}
 use Rattle.octets.proofs.Answer.{refused-same}
@@ -19,9 +19,9 @@ use Rattle.totals.proofs.Recounted.{recounted-right}
 -- 18 looked at before 9
 abbrev eighteen_first : List ℕ → List ℕ → ℕ → ℕ → Answer Count
 eighteen_first states totals a b =
-    if sized_totals states totals then
-    (if ltb b a then refused 18 0
-    else if ltb 4095 b then refused 9 0
+    when sized_totals states totals then
+    (when ltb b a then refused 18 0
+    else when ltb 4095 b then refused 9 0
     else accepted (count_between_lem states totals a b))
     else refused 16 0
 

@@ -1,7 +1,7 @@
 -- Busy rows counted by blocks: block k has the 64 circuits from 64 k on, and a total.
 use Rattle.std.specs.Prelude.{ℕ, ◌+◌, ◌-◌, ◌*◌, ◌/◌, ◌<◌, ◌≡◌, Bool, false, List, [], ◌∷◌, ◌⊎◌, eqb, length}
 use Rattle.octets.specs.Octet.{octet}
-use Rattle.octets.specs.Choice.{if◌then◌else◌}
+use Rattle.octets.specs.Choice.{when◌then◌else◌}
 use Rattle.octets.specs.Answer.{accepted, refused}
 use Rattle.octets.specs.Applied.{applied}
 use Rattle.octets.specs.Faults.{Fault, fault}
@@ -40,13 +40,13 @@ all_counted rows totals = recounted rows 0 4095 totals
 
 -- there are exactly 4096 states and 64 totals
 abbrev pub sized_totals : List ℕ → List ℕ → Bool
-sized_totals states totals = if eqb (length states) 4096 then eqb (length totals) 64 else false
+sized_totals states totals = when eqb (length states) 4096 then eqb (length totals) 64 else false
 
 -- all 64 blocks counted anew, or 16 where there are not 4096 states and 64
 -- totals; a refusal keeps the totals
 unfoldable pub rebuild_of : List ℕ → List ℕ → Done ℕ
 rebuild_of states totals =
-    if sized_totals states totals then leaving (accepted 64) (all_counted states totals)
+    when sized_totals states totals then leaving (accepted 64) (all_counted states totals)
     else leaving (refused 16 0) totals
 
 -- 16: not 4096 states, or not 64 totals

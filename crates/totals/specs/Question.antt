@@ -2,7 +2,7 @@
 -- rows one by one. Order: 16, 9, 18.
 use Rattle.std.specs.Prelude.{ℕ, ◌+◌, ◌-◌, ◌*◌, ◌/◌, ◌<◌, List, [], ◌∷◌, ltb}
 use Rattle.octets.specs.Octet.{octet}
-use Rattle.octets.specs.Choice.{if◌then◌else◌}
+use Rattle.octets.specs.Choice.{when◌then◌else◌}
 use Rattle.octets.specs.Answer.{Answer, accepted, refused}
 use Rattle.octets.specs.Faults.{Fault, fault}
 use Rattle.octets.specs.Sum.{total}
@@ -22,7 +22,7 @@ past_whole b = (b + 1) / 64
 -- `whole` of each block that lies within a to b
 unfoldable pub looked_at : (ℕ → ℕ) → (ℕ → ℕ) → ℕ → ℕ → ℕ
 looked_at row whole a b =
-    if ltb (first_whole a) (past_whole b) then
+    when ltb (first_whole a) (past_whole b) then
     total row a (64 * first_whole a - a)
     + total whole (first_whole a) (past_whole b - first_whole a)
     + total row (64 * past_whole b) (b + 1 - 64 * past_whole b)
@@ -44,9 +44,9 @@ count_between_lem rows totals a b = record { count = busy_count rows totals a b;
 -- totals, 9 where b is above 4095, 18 where a is above b
 unfoldable pub busy_between_lem : List ℕ → List ℕ → ℕ → ℕ → Answer Count
 busy_between_lem states totals a b =
-    if sized_totals states totals then
-    (if ltb 4095 b then refused 9 0
-    else if ltb b a then refused 18 0
+    when sized_totals states totals then
+    (when ltb 4095 b then refused 9 0
+    else when ltb b a then refused 18 0
     else accepted (count_between_lem states totals a b))
     else refused 16 0
 

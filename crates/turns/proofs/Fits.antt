@@ -10,7 +10,7 @@ use lib.Dec.{ltb, leb, eqb}
 use lib.ListN.{length, take, drop, replicate, length-append, length-take, length-drop, length-replicate, set}
 use lib.Ieee.{Float}
 use Rattle.octets.specs.Octet.{octets}
-use Rattle.octets.specs.Choice.{if◌then◌else◌}
+use Rattle.octets.specs.Choice.{when◌then◌else◌}
 use Rattle.octets.specs.Answer.{Answer, accepted, refused, ◌then◌}
 use Rattle.octets.specs.Filled.{done, leaving, room_for}
 use Rattle.layout.specs.declared.Row.{Row}
@@ -94,7 +94,7 @@ unfolding decimal_in
 decimal-length zero n = omega arith
 decimal-length (suc k) n = go (ltb 9 n) (decimal_in k (n / 10)) (decimal-length k (n / 10))
   where
-    go : (t : Bool) (xs : List ℕ) → length xs ≤ k → length ((if t then xs else []) ++ ((48 + n % 10) ∷ [])) ≤ suc k
+    go : (t : Bool) (xs : List ℕ) → length xs ≤ k → length ((when t then xs else []) ++ ((48 + n % 10) ∷ [])) ≤ suc k
     go true xs h = omega (arith, length-append xs ((48 + n % 10) ∷ []))
     go false xs h = omega arith
 
@@ -108,7 +108,7 @@ hex-length : (xs : List ℕ) → length (hex_of xs) ≤ 2 * length xs + 1
 unfolding hex_of
 hex-length xs = go (eqb (length xs) 0)
   where
-    go : (t : Bool) → length (if t then 45 ∷ [] else hex_pairs xs) ≤ 2 * length xs + 1
+    go : (t : Bool) → length (when t then 45 ∷ [] else hex_pairs xs) ≤ 2 * length xs + 1
     go true = omega arith
     go false = omega (arith, pairs-length xs)
 
@@ -125,7 +125,7 @@ fault-length : (n at : ℕ) → length (fault_line n at) ≤ 50
 unfolding fault_line
 fault-length n at = go (ltb n 3) (ltb 8 n)
   where
-    go : (s t : Bool) → length (if s then refusal n else if t then refusal n else refusal n ++ counted " at " at) ≤ 50
+    go : (s t : Bool) → length (when s then refusal n else when t then refusal n else refusal n ++ counted " at " at) ≤ 50
     go true t = omega (arith, counted-length "refused " n)
     go false true = omega (arith, counted-length "refused " n)
     go false false = omega (arith, length-append (refusal n) (counted " at " at), counted-length "refused " n, counted-length " at " at)
@@ -232,7 +232,7 @@ module _ (most : ℕ) (m : List ℕ) (h : length m ≤ most) where
   unfolding found_line
   found-fits d k (accepted s) = go (eqb s.holder 100)
     where
-      go : (t : Bool) → length (if t then shown "defaults " (octets d s.start s.len) else shown "message " (octets m s.start s.len)) ≤ 2 * most + 100
+      go : (t : Bool) → length (when t then shown "defaults " (octets d s.start s.len) else shown "message " (octets m s.start s.len)) ≤ 2 * most + 100
       go true = omega (arith, shown-length "defaults " (octets d s.start s.len) most (octets-length d s.start s.len most k))
       go false = omega (arith, shown-length "message " (octets m s.start s.len) most (octets-length m s.start s.len most h))
   found-fits d k (refused n at) = omega (arith, fault-length n at)
@@ -257,7 +257,7 @@ steps-length (suc n) m i = go (steps-length n m (place_after_lem m i)) (offer_at
 done-length : {A : Type 0} (buffer : List ℕ) (x : Answer (A × List ℕ)) → length (done buffer (x then room_for buffer)).left ≡ length buffer
 done-length {A} buffer (accepted y) = go (ltb (length buffer) (length y.1)) refl
   where
-    go : (t : Bool) → ltb (length buffer) (length y.1) ≡ t → length (done buffer (if t then refused 13 0 else accepted y)).left ≡ length buffer
+    go : (t : Bool) → ltb (length buffer) (length y.1) ≡ t → length (done buffer (when t then refused 13 0 else accepted y)).left ≡ length buffer
     go true e = refl
     go false e = omega (arith, length-append y.1 (drop (length y.1) buffer), length-drop (length y.1) buffer, ltb-false (length buffer) (length y.1) e)
 done-length buffer (refused n at) = refl
@@ -276,10 +276,10 @@ module _ (which : ℕ) (gs : List FieldSays) (h : ShortAll gs) where
   unfolding codec_line_lem write_of compact_of
   codec-fits = go (eqb which SHAPE) (eqb which READ) (eqb which WRITE) (eqb which COMPACT)
     where
-      go : (a b c d : Bool) → length (if a then shape_line (shape_of (octet_at_lem gs 0))
-          else if b then read_line (octets_at gs 0) (read_of (octets_at gs 0))
-          else if c then octets_line (write_of (number_at gs 0) (number_at gs 1) (octets_at gs 2) (octets_at gs 3) (octets_at gs 4) (octets_at gs 5) (lent (number_at gs 6)))
-          else if d then compact_line (compact_of (octets_at gs 0) (lent (number_at gs 1)))
+      go : (a b c d : Bool) → length (when a then shape_line (shape_of (octet_at_lem gs 0))
+          else when b then read_line (octets_at gs 0) (read_of (octets_at gs 0))
+          else when c then octets_line (write_of (number_at gs 0) (number_at gs 1) (octets_at gs 2) (octets_at gs 3) (octets_at gs 4) (octets_at gs 5) (lent (number_at gs 6)))
+          else when d then compact_line (compact_of (octets_at gs 0) (lent (number_at gs 1)))
           else found_line (octets_at gs 1) (octets_at gs 2) (locate_of (octets_at gs 1) (octets_at gs 2) (number_at gs 0))) ≤ 40000
       go true b c d = omega (arith, shape-fits (shape_of (octet_at_lem gs 0)))
       go false true c d = omega (arith, read_fits 1024 (octets_at gs 0) (h 0) (read_of (octets_at gs 0)))
@@ -296,9 +296,9 @@ module _ (which : ℕ) (gs : List FieldSays) (h : ShortAll gs) where
   unfolding bicc_line_lem bicc_write_of bicc_compact_of
   bicc-fits = go (eqb which BICC-SHAPE) (eqb which BICC-READ) (eqb which BICC-WRITE)
     where
-      go : (a b c : Bool) → length (if a then shape_line (bicc_shape_of (octet_at_lem gs 0))
-          else if b then code_line (octets_at gs 0) (bicc_read_of (octets_at gs 0))
-          else if c then octets_line (bicc_write_of (number_at gs 0) (number_at gs 1) (octets_at gs 2) (octets_at gs 3) (octets_at gs 4) (octets_at gs 5) (lent (number_at gs 6)))
+      go : (a b c : Bool) → length (when a then shape_line (bicc_shape_of (octet_at_lem gs 0))
+          else when b then code_line (octets_at gs 0) (bicc_read_of (octets_at gs 0))
+          else when c then octets_line (bicc_write_of (number_at gs 0) (number_at gs 1) (octets_at gs 2) (octets_at gs 3) (octets_at gs 4) (octets_at gs 5) (lent (number_at gs 6)))
           else compact_line (bicc_compact_of (octets_at gs 0) (lent (number_at gs 1)))) ≤ 40000
       go true b c = omega (arith, shape-fits (bicc_shape_of (octet_at_lem gs 0)))
       go false true c = omega (arith, code_fits 1024 (octets_at gs 0) (h 0) (bicc_read_of (octets_at gs 0)))
@@ -314,9 +314,9 @@ module _ (which : ℕ) (gs : List FieldSays) (h : ShortAll gs) where
   unfolding sccp_line_lem sccp_write_of sccp_compact_of
   sccp-fits = go (eqb which SCCP-SHAPE) (eqb which SCCP-READ) (eqb which SCCP-WRITE)
     where
-      go : (a b c : Bool) → length (if a then shape_line (sccp_shape_of (octet_at_lem gs 0))
-          else if b then type_line (octets_at gs 0) (sccp_read_of (octets_at gs 0))
-          else if c then octets_line (sccp_write_of (number_at gs 0) (octets_at gs 1) (octets_at gs 2) (octets_at gs 3) (octets_at gs 4) (octets_at gs 5) (lent (number_at gs 6)))
+      go : (a b c : Bool) → length (when a then shape_line (sccp_shape_of (octet_at_lem gs 0))
+          else when b then type_line (octets_at gs 0) (sccp_read_of (octets_at gs 0))
+          else when c then octets_line (sccp_write_of (number_at gs 0) (octets_at gs 1) (octets_at gs 2) (octets_at gs 3) (octets_at gs 4) (octets_at gs 5) (lent (number_at gs 6)))
           else compact_line (sccp_compact_of (octets_at gs 0) (lent (number_at gs 1)))) ≤ 40000
       go true b c = omega (arith, shape-fits (sccp_shape_of (octet_at_lem gs 0)))
       go false true c = omega (arith, type-fits 1024 (octets_at gs 0) (h 0) (sccp_read_of (octets_at gs 0)))
@@ -344,7 +344,7 @@ module _ (which : ℕ) (gs : List FieldSays) (h : ShortAll gs) where
   unfolding list_line_lem
   list-fits = go (eqb which LIST) (eqb which BICC-LIST)
     where
-      go : (a b : Bool) → length (if a then list_in isup (octets_at gs 0) else if b then list_in bicc (octets_at gs 0) else list_in sccp (octets_at gs 0)) ≤ 40000
+      go : (a b : Bool) → length (when a then list_in isup (octets_at gs 0) else when b then list_in bicc (octets_at gs 0) else list_in sccp (octets_at gs 0)) ≤ 40000
       go true b = listed-fits isup (octets_at gs 0) (h 0)
       go false true = listed-fits bicc (octets_at gs 0) (h 0)
       go false false = listed-fits sccp (octets_at gs 0) (h 0)
@@ -354,7 +354,7 @@ module _ (which : ℕ) (gs : List FieldSays) (h : ShortAll gs) where
   unfolding further_line_lem
   further-fits = go (leb which SCCP-COMPACT) (leb which SCCP-LIST)
     where
-      go : (a b : Bool) → length (if a then sccp_line_lem which gs else if b then list_line_lem which gs else said "bad line") ≤ 40000
+      go : (a b : Bool) → length (when a then sccp_line_lem which gs else when b then list_line_lem which gs else said "bad line") ≤ 40000
       go true b = sccp-fits
       go false true = list-fits
       go false false = omega arith
@@ -364,7 +364,7 @@ module _ (which : ℕ) (gs : List FieldSays) (h : ShortAll gs) where
   unfolding numbers_line_lem
   numbers_fit = go (eqb which NUMBER)
     where
-      go : (a : Bool) → length (if a then number_line (read_number_of (octets_at gs 0) (lent (number_at gs 1))) else octets_line (write_number_of (number_at gs 0) (number_at gs 1) (number_at gs 2) (octets_at gs 3) (lent (number_at gs 4)))) ≤ 40000
+      go : (a : Bool) → length (when a then number_line (read_number_of (octets_at gs 0) (lent (number_at gs 1))) else octets_line (write_number_of (number_at gs 0) (number_at gs 1) (number_at gs 2) (octets_at gs 3) (lent (number_at gs 4)))) ≤ 40000
       go true =
           let x = read_number_of (octets_at gs 0) (lent (number_at gs 1)) in
           omega (arith, signals-fit 1024 x.left (omega (arith, lent_length (number_at gs 1), done-length (lent (number_at gs 1)) (number_in (octets_at gs 0)))) x.answer)
@@ -423,9 +423,9 @@ velocities-fit : (which : ℕ) (gs : List FieldSays) → length (velocities_line
 unfolding velocities_line_lem
 velocities-fit which gs = go (eqb which VELOCITY) (eqb which VELOCITY-LONG) (eqb which VELOCITY-BACK)
   where
-    go : (a b c : Bool) → length (if a then velocity_line (octets_at gs 0) (octets_at gs 1)
-        else if b then velocity_long_line (octets_at gs 0) (octets_at gs 1) (octets_at gs 2) (octets_at gs 3)
-        else if c then back_line (code_at gs 0) (code_at gs 1)
+    go : (a b c : Bool) → length (when a then velocity_line (octets_at gs 0) (octets_at gs 1)
+        else when b then velocity_long_line (octets_at gs 0) (octets_at gs 1) (octets_at gs 2) (octets_at gs 3)
+        else when c then back_line (code_at gs 0) (code_at gs 1)
         else back_long_line (code_at gs 0) (code_at gs 1) (octet_at_lem gs 2) (octets_at gs 3)) ≤ 40000
     go true b c = omega (arith, velocity-fits (octets_at gs 0) (octets_at gs 1))
     go false true c = omega (arith, velocity-long-fits (octets_at gs 0) (octets_at gs 1) (octets_at gs 2) (octets_at gs 3))
@@ -450,9 +450,9 @@ unfolding busy_done
 busy-fits states totals h which gs = go (eqb which BUSY) (eqb which TOTALS) (eqb which TOTAL)
   where
     go : (a b c : Bool)
-        → length (if a then busy_after totals (busy_line (busy_between_lem states totals (number_at gs 0) (number_at gs 1)))
-        else if b then busy_after totals (shown "totals " totals)
-        else if c then busy_after (set totals (number_at gs 0) (octet_at_lem gs 1)) (said "ok")
+        → length (when a then busy_after totals (busy_line (busy_between_lem states totals (number_at gs 0) (number_at gs 1)))
+        else when b then busy_after totals (shown "totals " totals)
+        else when c then busy_after (set totals (number_at gs 0) (octet_at_lem gs 1)) (said "ok")
         else rebuilt states totals).line ≤ 40000
     go true b c = omega (arith, count_fits (busy_between_lem states totals (number_at gs 0) (number_at gs 1)))
     go false true c = omega (arith, shown-length "totals " totals 4096 h)
@@ -465,9 +465,9 @@ module _ (T : DeskTables) (k : length T.tables.states ≤ 4096) (w : length T.to
   unfolding table_turn_lem
   table_fits which gs = go (eqb which OWN) (eqb which HELPER) (eqb which SET)
     where
-      go : (a h b : Bool) → length (if a then turn (desk_tables T.tables.states (spread T.tables.owners (number_at gs 0) (number_at gs 1) (octet_at_lem gs 2)) T.tables.helpers T.totals) (said "ok")
-          else if h then turn (desk_tables T.tables.states T.tables.owners (spread T.tables.helpers (number_at gs 0) (number_at gs 1) (octet_at_lem gs 2)) T.totals) (said "ok")
-          else if b then turn (set_turn T (number_at gs 0) (number_at gs 1) (octet_at_lem gs 2)) (said "ok")
+      go : (a h b : Bool) → length (when a then turn (desk_tables T.tables.states (spread T.tables.owners (number_at gs 0) (number_at gs 1) (octet_at_lem gs 2)) T.tables.helpers T.totals) (said "ok")
+          else when h then turn (desk_tables T.tables.states T.tables.owners (spread T.tables.helpers (number_at gs 0) (number_at gs 1) (octet_at_lem gs 2)) T.totals) (said "ok")
+          else when b then turn (set_turn T (number_at gs 0) (number_at gs 1) (octet_at_lem gs 2)) (said "ok")
           else turn T (rows_line T.tables.states (number_at gs 0) (number_at gs 1))).line ≤ 40000
       go true h b = omega arith
       go false true b = omega arith
@@ -493,7 +493,7 @@ module _ (T : DeskTables) (k : length T.tables.states ≤ 4096) (w : length T.to
   unfolding further_done
   further-turn-fits which gs h = go (ltb which BUSY) (leb which REBUILD)
     where
-      go : (a b : Bool) → length (if a then busy_after T.totals (further_line_lem which gs) else if b then busy_done T.tables.states T.totals which gs else busy_after T.totals (said "bad line")).line ≤ 40000
+      go : (a b : Bool) → length (when a then busy_after T.totals (further_line_lem which gs) else when b then busy_done T.tables.states T.totals which gs else busy_after T.totals (said "bad line")).line ≤ 40000
       go true b = further-fits which gs h
       go false true = busy-fits T.tables.states T.totals w which gs
       go false false = omega arith
@@ -503,13 +503,13 @@ module _ (T : DeskTables) (k : length T.tables.states ≤ 4096) (w : length T.to
   unfolding turn_by
   held_fits which gs h = go (ltb which NUMBER) (ltb which OWN) (ltb which ACT) (eqb which ACT) (leb which UNBLOCK) (leb which VELOCITY-BACK-LONG) (leb which BICC-COMPACT)
     where
-      go : (a b c d u e f : Bool) → length (if a then turn T (codec_line_lem which gs)
-          else if b then turn T (numbers_line_lem which gs)
-          else if c then table_turn_lem T which gs
-          else if d then act_turn_lem T gs
-          else if u then block_turn_lem T which gs
-          else if e then turn T (velocities_line_lem which gs)
-          else if f then turn T (bicc_line_lem which gs)
+      go : (a b c d u e f : Bool) → length (when a then turn T (codec_line_lem which gs)
+          else when b then turn T (numbers_line_lem which gs)
+          else when c then table_turn_lem T which gs
+          else when d then act_turn_lem T gs
+          else when u then block_turn_lem T which gs
+          else when e then turn T (velocities_line_lem which gs)
+          else when f then turn T (bicc_line_lem which gs)
           else further_turn_lem T which gs).line ≤ 40000
       go true b c d u e f = codec-fits which gs h
       go false true c d u e f = numbers_fit which gs h
@@ -551,8 +551,8 @@ unfolding night_done
 night-fits T ticks which gs = go (eqb which TICK) (eqb which PLAN)
   where
     go : (a b : Bool)
-        → length (if a then night_after (spread ticks (number_at gs 0) (number_at gs 1) (octet_at_lem gs 2)) (said "ok")
-        else if b then night_after ticks (plan_line T ticks (number_at gs 0) (number_at gs 1) (number_at gs 2))
+        → length (when a then night_after (spread ticks (number_at gs 0) (number_at gs 1) (octet_at_lem gs 2)) (said "ok")
+        else when b then night_after ticks (plan_line T ticks (number_at gs 0) (number_at gs 1) (number_at gs 2))
         else night_after ticks (checked_line (check_at T ticks (number_at gs 0) (number_at gs 1) (octets_at gs 2)))).line ≤ 80000
     go true b = omega arith
     go false true = plan-line-fits T ticks (number_at gs 0) (number_at gs 1) (number_at gs 2)
@@ -563,7 +563,7 @@ pub row_fits : (D : Desk) → length D.held.tables.states ≤ 4096 → length D.
 unfolding row_turn_lem
 row_fits D k w which gs h = go (ltb which TICK) (leb which CHECK) refl
   where
-    go : (s t : Bool) → ltb which TICK ≡ s → length (if s then held_turn D.ticks (turn_by D.held which gs) else if t then night_turn D which gs else bad_turn D).line ≤ 80000
+    go : (s t : Bool) → ltb which TICK ≡ s → length (when s then held_turn D.ticks (turn_by D.held which gs) else when t then night_turn D which gs else bad_turn D).line ≤ 80000
     go true t e = omega (arith, held_fits D.held k w which gs (h (ltb-true which TICK e)))
     go false true e = night-fits D.held.tables D.ticks which gs
     go false false e = omega arith

@@ -9,7 +9,7 @@ use borrow.Author.Tests.{eqb-true, eqb-false, ltb-false, leb-true}
 use Rattle.octets.proofs.Choice.{decided}
 use lib.Dec.{ltb, leb, eqb}
 use Rattle.octets.specs.Answer.{refused}
-use Rattle.octets.specs.Choice.{if◌then◌else◌}
+use Rattle.octets.specs.Choice.{when◌then◌else◌}
 use Rattle.board.proofs.Kept.{board-keeps, desk-board-keeps}
 use Rattle.words.specs.Said.{said}
 use Rattle.fields.specs.Kinds.{FieldSays}
@@ -42,9 +42,9 @@ module _ (T : DeskTables) (which : ℕ) (gs : List FieldSays) where
   -- of the requests of the tables, the choice of a row
   abbrev chosen_table : Bool → Bool → Bool → Turn
   chosen_table o h s =
-      if o then turn (desk_tables T.tables.states (spread T.tables.owners (number_at gs 0) (number_at gs 1) (octet_at_lem gs 2)) T.tables.helpers T.totals) (said "ok")
-      else if h then turn (desk_tables T.tables.states T.tables.owners (spread T.tables.helpers (number_at gs 0) (number_at gs 1) (octet_at_lem gs 2)) T.totals) (said "ok")
-      else if s then turn (set_turn T (number_at gs 0) (number_at gs 1) (octet_at_lem gs 2)) (said "ok")
+      when o then turn (desk_tables T.tables.states (spread T.tables.owners (number_at gs 0) (number_at gs 1) (octet_at_lem gs 2)) T.tables.helpers T.totals) (said "ok")
+      else when h then turn (desk_tables T.tables.states T.tables.owners (spread T.tables.helpers (number_at gs 0) (number_at gs 1) (octet_at_lem gs 2)) T.totals) (said "ok")
+      else when s then turn (set_turn T (number_at gs 0) (number_at gs 1) (octet_at_lem gs 2)) (said "ok")
       else turn T (rows_line T.tables.states (number_at gs 0) (number_at gs 1))
 
   -- only `own` changes who owns a circuit
@@ -95,13 +95,13 @@ module _ (T : DeskTables) (which : ℕ) (gs : List FieldSays) where
   -- the choice of a family
   abbrev chosen_family : Bool → Bool → Bool → Bool → Bool → Bool → Bool → Turn
   chosen_family a b c d u v w =
-      if a then turn T (codec_line_lem which gs)
-      else if b then turn T (numbers_line_lem which gs)
-      else if c then table_turn_lem T which gs
-      else if d then act_turn_lem T gs
-      else if u then block_turn_lem T which gs
-      else if v then turn T (velocities_line_lem which gs)
-      else if w then turn T (bicc_line_lem which gs)
+      when a then turn T (codec_line_lem which gs)
+      else when b then turn T (numbers_line_lem which gs)
+      else when c then table_turn_lem T which gs
+      else when d then act_turn_lem T gs
+      else when u then block_turn_lem T which gs
+      else when v then turn T (velocities_line_lem which gs)
+      else when w then turn T (bicc_line_lem which gs)
       else further_turn_lem T which gs
 
   -- only `own` changes who owns a circuit, and only `helper` who helps one
@@ -167,7 +167,7 @@ module _ (T : DeskTables) (which : ℕ) (gs : List FieldSays) where
   unfolding further_done
   further-totals t b = go (ltb which BUSY) (leb which REBUILD) refl refl
     where
-      go : (l h : Bool) → ltb which BUSY ≡ l → leb which REBUILD ≡ h → (if l then busy_after T.totals (further_line_lem which gs) else if h then busy_done T.tables.states T.totals which gs else busy_after T.totals (said "bad line")).totals ≡ T.totals
+      go : (l h : Bool) → ltb which BUSY ≡ l → leb which REBUILD ≡ h → (when l then busy_after T.totals (further_line_lem which gs) else when h then busy_done T.tables.states T.totals which gs else busy_after T.totals (said "bad line")).totals ≡ T.totals
       go true h e f = refl
       go false true e f = others-keep-totals T.tables.states T.totals gs which (ltb-false which BUSY e) (leb-true which REBUILD f) t b
       go false false e f = refl
@@ -193,7 +193,7 @@ module _ (D : Desk) (which : ℕ) (gs : List FieldSays) where
   unfolding row_turn_lem
   held_by P a b = go (ltb which TICK) (leb which CHECK)
     where
-      go : (s t : Bool) → P (if s then held_turn D.ticks (turn_by D.held which gs) else if t then night_turn D which gs else bad_turn D).desk.held
+      go : (s t : Bool) → P (when s then held_turn D.ticks (turn_by D.held which gs) else when t then night_turn D which gs else bad_turn D).desk.held
       go true t = a
       go false true = b
       go false false = b
@@ -203,7 +203,7 @@ module _ (D : Desk) (which : ℕ) (gs : List FieldSays) where
   unfolding row_turn_lem
   ticks-by n = go (ltb which TICK) (leb which CHECK)
     where
-      go : (s t : Bool) → (if s then held_turn D.ticks (turn_by D.held which gs) else if t then night_turn D which gs else bad_turn D).desk.ticks ≡ D.ticks
+      go : (s t : Bool) → (when s then held_turn D.ticks (turn_by D.held which gs) else when t then night_turn D which gs else bad_turn D).desk.ticks ≡ D.ticks
       go true t = refl
       go false true = others-keep-ticks D.held.tables D.ticks gs which n
       go false false = refl

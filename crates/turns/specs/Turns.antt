@@ -1,6 +1,6 @@
 -- What the desk does with a request: the tables afterwards, and the answer's line.
 use Rattle.std.specs.Prelude.{ℕ, List, ltb, leb, eqb}
-use Rattle.octets.specs.Choice.{if◌then◌else◌}
+use Rattle.octets.specs.Choice.{when◌then◌else◌}
 use Rattle.words.specs.Said.{said}
 use Rattle.printing.specs.Sheet.{Sheet, pour}
 use Rattle.fields.specs.Kinds.{FieldSays}
@@ -74,13 +74,13 @@ further_turn_lem T which gs =
 -- velocities, then BICC's, and then the further ones
 unfoldable pub turn_by : DeskTables → ℕ → List FieldSays → Turn
 turn_by T which gs =
-    if ltb which NUMBER then turn T (codec_line_lem which gs)
-    else if ltb which OWN then turn T (numbers_line_lem which gs)
-    else if ltb which ACT then table_turn_lem T which gs
-    else if eqb which ACT then act_turn_lem T gs
-    else if leb which UNBLOCK then block_turn_lem T which gs
-    else if leb which VELOCITY-BACK-LONG then turn T (velocities_line_lem which gs)
-    else if leb which BICC-COMPACT then turn T (bicc_line_lem which gs)
+    when ltb which NUMBER then turn T (codec_line_lem which gs)
+    else when ltb which OWN then turn T (numbers_line_lem which gs)
+    else when ltb which ACT then table_turn_lem T which gs
+    else when eqb which ACT then act_turn_lem T gs
+    else when leb which UNBLOCK then block_turn_lem T which gs
+    else when leb which VELOCITY-BACK-LONG then turn T (velocities_line_lem which gs)
+    else when leb which BICC-COMPACT then turn T (bicc_line_lem which gs)
     else further_turn_lem T which gs
 
 -- such a row leaves the ticks
@@ -96,6 +96,6 @@ night_turn D which gs =
 -- a row of the table: those of a maintenance night stand last
 unfoldable pub row_turn_lem : Desk → ℕ → List FieldSays → DeskTurn
 row_turn_lem D which gs =
-    if ltb which TICK then held_turn D.ticks (turn_by D.held which gs)
-    else if leb which CHECK then night_turn D which gs
+    when ltb which TICK then held_turn D.ticks (turn_by D.held which gs)
+    else when leb which CHECK then night_turn D which gs
     else bad_turn D

@@ -1,4 +1,6 @@
 // What the desk does with a request, by its family: the tables afterwards, and the answer's line.
+#![tactic(auto)]
+
 ghost use Rattle.std.specs.Prelude.{◌≡◌};
 ghost use Rattle.printing.specs.Sheet.{sheet};
 ghost use Rattle.requests.specs.Along.{said_in};

@@ -1,5 +1,7 @@
 // What a word says as a field of a kind: a number up to a limit, an octet,
 // octets, or the word as it is typed.
+#![tactic(auto)]
+
 ghost use Rattle.std.specs.Prelude.{◌≡◌};
 ghost use Rattle.words.specs.Into.{entry};
 ghost use Rattle.fields.specs.Kinds.{not_below_lem};

@@ -3,7 +3,7 @@
 use Rattle.std.specs.Prelude.{◌≡◌, Bool, true, false, ◌⊎◌, ℕ, zero, suc, ◌+◌, ◌*◌, ◌^◌, ◌/◌, ◌%◌, ◌≤◌, ◌<◌, pos, eqb, leb, Float}
 use Rattle.std.specs.Float.{nan, inf, fin}
 use Rattle.std.specs.Float.Ieee.{lt}
-use Rattle.octets.specs.Choice.{if◌then◌else◌}
+use Rattle.octets.specs.Choice.{when◌then◌else◌}
 use Rattle.velocity.specs.declared.Mark.{Mark}
 use Rattle.velocity.specs.declared.Course.{Course}
 use Rattle.velocity.specs.declared.Velocity.{Velocity}
@@ -18,7 +18,7 @@ use Rattle.velocity.specs.Velocity.{Measured, exactly, none, measured, Stands, a
 abbrev pub fields_name : Bool → ℕ → ℕ → Measured
 fields_name false zero t = exactly t (2 ^ 1074)
 fields_name false (suc x) t =
-    if eqb (suc x) 2047 then none else exactly ((2 ^ 52 + t) * 2 ^ x) (2 ^ 1074)
+    when eqb (suc x) 2047 then none else exactly ((2 ^ 52 + t) * 2 ^ x) (2 ^ 1074)
 fields_name true zero zero = exactly 0 1
 fields_name true zero (suc t) = none
 fields_name true (suc x) t = none

@@ -3,7 +3,7 @@
 use Rattle.std.specs.Prelude.{true, false, ℕ, zero, suc, ◌+◌, ◌*◌, ◌/◌, min, pos, ltb, Float}
 use Rattle.std.specs.Float.{nan, inf, fin, binary64}
 use Rattle.std.specs.Float.Ieee.{up, down, of_int}
-use Rattle.octets.specs.Choice.{if◌then◌else◌}
+use Rattle.octets.specs.Choice.{when◌then◌else◌}
 use Rattle.octets.specs.Answer.{Answer, accepted, refused, ◌then◌}
 use Rattle.velocity.specs.declared.Mark.{Mark}
 use Rattle.velocity.specs.declared.Velocity.{Velocity}
@@ -28,7 +28,7 @@ measured (fin true (suc m) e) = none
 
 -- a bearing's code: N ≤ b < N+1, below 360
 unfoldable pub bearing_of : Measured → Answer ℕ
-bearing_of (exactly a c) = if ltb a (360 * c) then accepted (a / c) else refused 26 0
+bearing_of (exactly a c) = when ltb a (360 * c) then accepted (a / c) else refused 26 0
 bearing_of none = refused 26 0
 
 -- a speed's code: within half of N, a half going up, and `top` for everything from half below it
@@ -74,6 +74,6 @@ pub data Stands : Type 0 where
 
 -- what codes stand for, below a bearing of 360
 unfoldable pub known_of : Codes → Answer Stands
-known_of (Horizontal b s) = if ltb 359 b then refused 26 0 else accepted (alone (course_of_lem b s))
+known_of (Horizontal b s) = when ltb 359 b then refused 26 0 else accepted (alone (course_of_lem b s))
 known_of (WithVertical b s u mark) =
-    if ltb 359 b then refused 26 0 else accepted (beside (course_of_lem b s) (whole_of u) mark)
+    when ltb 359 b then refused 26 0 else accepted (beside (course_of_lem b s) (whole_of u) mark)

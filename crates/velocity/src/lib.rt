@@ -1,36 +1,37 @@
 // Velocities of calling handsets (Q.1902.3, 6.19): measured values, and the whole numbers that
 // stand for them. Definitions, theorems and types.
+#![tactic(auto)]
 
 // Which way a vertical speed goes.
-#[derive(Drop)]
+#[derive(Clone, Copy)]
 pub enum Mark {
     Upward,
     Downward,
 }
 
 // What was measured: bearing in degrees, speed and vertical speed in km/h.
-#[derive(Drop)]
+#[derive(Clone, Copy)]
 pub enum Velocity {
     Horizontal(f64, f64),
     WithVertical(f64, f64, f64, Mark),
 }
 
 // The whole numbers that stand for them.
-#[derive(Drop)]
+#[derive(Clone, Copy)]
 pub enum Codes {
     Horizontal(u16, u16),
     WithVertical(u16, u16, u8, Mark),
 }
 
 // The codes, or the refusal's number.
-#[derive(Drop)]
+#[derive(Clone, Copy)]
 pub enum Coded {
     As(Codes),
     Refused(u8),
 }
 
 // Bearing and speed together.
-#[derive(Drop)]
+#[derive(Clone, Copy)]
 pub struct Course {
     pub bearing: f64,
     pub speed: f64,
@@ -38,7 +39,7 @@ pub struct Course {
 
 // What codes stand for: the course, and beside it a vertical speed with its
 // mark; or the refusal's number.
-#[derive(Drop)]
+#[derive(Clone, Copy)]
 pub enum Known {
     Horizontal(Course),
     WithVertical(Course, f64, Mark),
@@ -46,14 +47,14 @@ pub enum Known {
 }
 
 // A code, or that there is none.
-#[derive(Drop)]
+#[derive(Clone, Copy)]
 pub enum Whole {
     Is(u16),
     Not,
 }
 
 // The codes of a bearing and a speed, or that there are none.
-#[derive(Drop)]
+#[derive(Clone, Copy)]
 pub enum Flat {
     At(u16, u16),
     Not,

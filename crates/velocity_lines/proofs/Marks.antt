@@ -1,6 +1,6 @@
 -- `up` and `down` are the marks, and no other word is one.
 use Rattle.std.proofs.Common.{◌≡◌, ℕ, Bool, true, false, eqb, ◌↔◌, List, [], ◌∷◌, length, get_or, refl, ap, ◌∙◌, ⊎_elim, arith, eqb-true}
-use Rattle.octets.specs.Choice.{if◌then◌else◌}
+use Rattle.octets.specs.Choice.{when◌then◌else◌}
 use Rattle.octets.proofs.Choice.{chosen}
 use Rattle.words.specs.Said.{said}
 use Rattle.velocity.specs.declared.Mark.{Mark}
@@ -35,7 +35,7 @@ four (a ∷ b ∷ c ∷ d ∷ []) e = refl
 four (a ∷ b ∷ c ∷ d ∷ x ∷ l) e = absurd (omega arith)
 
 -- past a test that has to hold
-past : {m : Mark} (t : Bool) {x : Marked} → (if t then x else Not) ≡ Is m → (t ≡ true) × (x ≡ Is m)
+past : {m : Mark} (t : Bool) {x : Marked} → (when t then x else Not) ≡ Is m → (t ≡ true) × (x ≡ Is m)
 past true e = (refl, e)
 past false e = absurd (no-mark e)
 

@@ -2,7 +2,7 @@
 use Rattle.std.specs.Prelude.{ℕ, ◌%◌, true, false, List, ◌++◌, length, pos, ◌==◌, nat_eq, slice_index, Float}
 use Rattle.std.specs.Float.{fin}
 use Rattle.std.specs.Float.Ieee.{lt, to_unsigned}
-use Rattle.octets.specs.Choice.{if◌then◌else◌}
+use Rattle.octets.specs.Choice.{when◌then◌else◌}
 use Rattle.octets.specs.Answer.{Answer, accepted, refused}
 use Rattle.words.specs.Said.{said}
 use Rattle.decimals.specs.declared.Real.{Real}
@@ -25,13 +25,13 @@ use Rattle.velocity_lines.specs.declared.Marked.TheVariants.{Is, Not}
 -- which mark a word is: up, down, or none
 unfoldable pub typed_mark : List ℕ → Marked
 typed_mark word =
-    if length word == 2
-    then (if nat_eq (slice_index word 0) 117 then (if nat_eq (slice_index word 1) 112 then Is Upward else Not)
+    when length word == 2
+    then (when nat_eq (slice_index word 0) 117 then (when nat_eq (slice_index word 1) 112 then Is Upward else Not)
     else Not)
-    else if length word == 4
-    then (if nat_eq (slice_index word 0) 100
-    then (if nat_eq (slice_index word 1) 111
-    then (if nat_eq (slice_index word 2) 119 then (if nat_eq (slice_index word 3) 110 then Is Downward else Not)
+    else when length word == 4
+    then (when nat_eq (slice_index word 0) 100
+    then (when nat_eq (slice_index word 1) 111
+    then (when nat_eq (slice_index word 2) 119 then (when nat_eq (slice_index word 3) 110 then Is Downward else Not)
     else Not) else Not) else Not)
     else Not
 
@@ -54,7 +54,7 @@ coded_line (refused n at) = refusal n
 -- the whole number that a value above -1 and below 65536 is, its fraction dropped; 0 for any other
 unfoldable pub whole_in : Float → ℕ
 whole_in x =
-    if lt (fin true 1 (pos 0)) x then (if lt x (fin false 1 (pos 16)) then to_unsigned 64 x else 0)
+    when lt (fin true 1 (pos 0)) x then (when lt x (fin false 1 (pos 16)) then to_unsigned 64 x else 0)
     else 0
 
 -- bearing and speed, which were read back
@@ -108,8 +108,8 @@ code_at gs i = number_at gs i % 65536
 -- velocity-back is its last
 unfoldable pub velocities_line_lem : ℕ → List FieldSays → List ℕ
 velocities_line_lem which gs =
-    if which == VELOCITY then velocity_line (octets_at gs 0) (octets_at gs 1)
-    else if which == VELOCITY-LONG
+    when which == VELOCITY then velocity_line (octets_at gs 0) (octets_at gs 1)
+    else when which == VELOCITY-LONG
     then velocity_long_line (octets_at gs 0) (octets_at gs 1) (octets_at gs 2) (octets_at gs 3)
-    else if which == VELOCITY-BACK then back_line (code_at gs 0) (code_at gs 1)
+    else when which == VELOCITY-BACK then back_line (code_at gs 0) (code_at gs 1)
     else back_long_line (code_at gs 0) (code_at gs 1) (octet_at_lem gs 2) (octets_at gs 3)

@@ -1,4 +1,6 @@
 // What the desk answers to the requests for velocities: velocity, velocity-back, each in two forms.
+#![tactic(auto)]
+
 ghost use Rattle.std.specs.Prelude.{◌≡◌};
 ghost use Rattle.printing.specs.Sheet.{sheet, pour};
 ghost use Rattle.velocity.specs.Told.{coded_told, known_told};
@@ -11,7 +13,7 @@ use requests::Request;
 use velocity::{Coded, Codes, Course, Known, Mark, Velocity};
 
 // A mark, or that the word is none.
-#[derive(Drop)]
+#[derive(Clone, Copy)]
 pub enum Marked {
     Is(Mark),
     Not,

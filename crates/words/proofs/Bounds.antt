@@ -9,7 +9,7 @@ use native.Mathlib.Nat.{mod-lt}
 use borrow.Author.Tests.{ltb-false}
 use lib.Dec.{ltb, eqb}
 use lib.ListN.{length, get_or, drop, length-drop}
-use Rattle.octets.specs.Choice.{if◌then◌else◌}
+use Rattle.octets.specs.Choice.{when◌then◌else◌}
 use Rattle.octets.proofs.Choice.{chosen}
 use Rattle.words.specs.declared.Number.TheVariants.{Is, Not}
 use Rattle.words.specs.Digits.{value_of}
@@ -21,7 +21,7 @@ unfolding word_length
 word-short [] = omega arith
 word-short (c ∷ cs) = go (eqb c 32) (word-short cs)
   where
-    go : (t : Bool) → word_length cs ≤ length cs → (if t then 0 else suc (word_length cs)) ≤ suc (length cs)
+    go : (t : Bool) → word_length cs ≤ length cs → (when t then 0 else suc (word_length cs)) ≤ suc (length cs)
     go true h = omega arith
     go false h = omega arith
 

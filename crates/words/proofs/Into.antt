@@ -10,7 +10,7 @@ use borrow.Author.Tests.{le-ltb, ltb-false}
 use lib.Dec.{ltb, eqb}
 use lib.ListN.{length, get_or, take, set, length-set}
 use lib.Seq.{sets, take-set-le}
-use Rattle.octets.specs.Choice.{if◌then◌else◌}
+use Rattle.octets.specs.Choice.{when◌then◌else◌}
 use Rattle.octets.proofs.Choice.{chosen}
 use Rattle.words.specs.declared.Number.TheVariants.{Is, Not}
 use Rattle.words.specs.Digits.{value_of}
@@ -28,7 +28,7 @@ pub octets-few : (w : List ℕ) → 2 * length (octets_of w) ≤ length w
 unfolding octets_of
 octets-few w = go (eqb (length w) 1)
   where
-    go : (t : Bool) → 2 * length (if t then [] else pairs_of w) ≤ length w
+    go : (t : Bool) → 2 * length (when t then [] else pairs_of w) ≤ length w
     go true = omega arith
     go false = pairs-few w
 
@@ -38,8 +38,8 @@ unfolding are_octets octets_of
 octets-most most w e = go (eqb (length w) 1) e
   where
     go : (t : Bool)
-        → (if t then eqb (get_or w 0 0) 45 else if eqb (length w) 0 then false else if ltb most (length w / 2) then false else if eqb (length w % 2) 1 then false else all_digits_lem w) ≡ true
-        → length (if t then [] else pairs_of w) ≤ most
+        → (when t then eqb (get_or w 0 0) 45 else when eqb (length w) 0 then false else when ltb most (length w / 2) then false else when eqb (length w % 2) 1 then false else all_digits_lem w) ≡ true
+        → length (when t then [] else pairs_of w) ≤ most
     go true h = omega arith
     go false h =
         ⊎_elim (λ x. absurd (false≢true x.1))
@@ -78,8 +78,8 @@ module _ (at : ℕ) where
   pairs-broken (a ∷ b ∷ cs) buffer n e = first (ltb 15 (value_of a)) (ltb 15 (value_of b)) (pairs-broken cs (set buffer (at + n) ((16 * value_of a + value_of b) % 256)) (n + 1)) e
     where
       first : (s t : Bool) → (all_digits_lem cs ≡ false → (pairs_into cs (set buffer (at + n) ((16 * value_of a + value_of b) % 256)) at (n + 1)).count ≡ Not)
-          → (if s then false else if t then false else all_digits_lem cs) ≡ false
-          → (if s then entry Not buffer else if t then entry Not buffer else pairs_into cs (set buffer (at + n) ((16 * value_of a + value_of b) % 256)) at (n + 1)).count ≡ Not
+          → (when s then false else when t then false else all_digits_lem cs) ≡ false
+          → (when s then entry Not buffer else when t then entry Not buffer else pairs_into cs (set buffer (at + n) ((16 * value_of a + value_of b) % 256)) at (n + 1)).count ≡ Not
       first true t ih q = refl
       first false true ih q = refl
       first false false ih q = ih q
@@ -94,8 +94,8 @@ module _ (at : ℕ) where
       go : (s t : Bool)
           → (take at (pairs_into cs (set buffer (at + n) ((16 * value_of a + value_of b) % 256)) at (n + 1)).left ≡ take at (set buffer (at + n) ((16 * value_of a + value_of b) % 256)))
           × (length (pairs_into cs (set buffer (at + n) ((16 * value_of a + value_of b) % 256)) at (n + 1)).left ≡ length (set buffer (at + n) ((16 * value_of a + value_of b) % 256)))
-          → (take at (if s then entry Not buffer else if t then entry Not buffer else pairs_into cs (set buffer (at + n) ((16 * value_of a + value_of b) % 256)) at (n + 1)).left ≡ take at buffer)
-          × (length (if s then entry Not buffer else if t then entry Not buffer else pairs_into cs (set buffer (at + n) ((16 * value_of a + value_of b) % 256)) at (n + 1)).left ≡ length buffer)
+          → (take at (when s then entry Not buffer else when t then entry Not buffer else pairs_into cs (set buffer (at + n) ((16 * value_of a + value_of b) % 256)) at (n + 1)).left ≡ take at buffer)
+          × (length (when s then entry Not buffer else when t then entry Not buffer else pairs_into cs (set buffer (at + n) ((16 * value_of a + value_of b) % 256)) at (n + 1)).left ≡ length buffer)
       go true t e = (refl, refl)
       go false true e = (refl, refl)
       go false false e = (e.0 ∙ take-set-le at buffer (at + n) _ (omega arith), e.1 ∙ length-set buffer (at + n) _)
@@ -107,12 +107,12 @@ into-keeps most word buffer at = go (eqb (length word) 1) (eqb (length word) 0) 
   where
     chose : Bool → Bool → Bool → Bool → Bool → Bool → Entry
     chose one none many odd past full =
-        if one then entry (if eqb (get_or word 0 0) 45 then Is 0 else Not) buffer
-        else if none then entry Not buffer
-        else if many then entry Not buffer
-        else if odd then entry Not buffer
-        else if past then entry Not buffer
-        else if full then entry Not buffer
+        when one then entry (when eqb (get_or word 0 0) 45 then Is 0 else Not) buffer
+        else when none then entry Not buffer
+        else when many then entry Not buffer
+        else when odd then entry Not buffer
+        else when past then entry Not buffer
+        else when full then entry Not buffer
         else pairs_into word buffer at 0
 
     go : (one none many odd past full : Bool) → (take at (chose one none many odd past full).left ≡ take at buffer) × (length (chose one none many odd past full).left ≡ length buffer)
@@ -135,15 +135,15 @@ module _ (most : ℕ) (word buffer : List ℕ) (at : ℕ) (h : at + length word 
   octets-into e = go (eqb (length word) 1) (eqb (length word) 0) (ltb most (length word / 2)) (eqb (length word % 2) 1) refl e
     where
       go : (one none many odd : Bool) → eqb (length word % 2) 1 ≡ odd
-          → (if one then eqb (get_or word 0 0) 45 else if none then false else if many then false else if odd then false else all_digits_lem word) ≡ true
-          → (if one then entry (if eqb (get_or word 0 0) 45 then Is 0 else Not) buffer
-          else if none then entry Not buffer
-          else if many then entry Not buffer
-          else if odd then entry Not buffer
-          else if ltb (length buffer) at then entry Not buffer
-          else if ltb (length buffer - at) (length word / 2) then entry Not buffer
+          → (when one then eqb (get_or word 0 0) 45 else when none then false else when many then false else when odd then false else all_digits_lem word) ≡ true
+          → (when one then entry (when eqb (get_or word 0 0) 45 then Is 0 else Not) buffer
+          else when none then entry Not buffer
+          else when many then entry Not buffer
+          else when odd then entry Not buffer
+          else when ltb (length buffer) at then entry Not buffer
+          else when ltb (length buffer - at) (length word / 2) then entry Not buffer
           else pairs_into word buffer at 0)
-          ≡ entry (Is (length (if one then [] else pairs_of word))) (sets buffer at (if one then [] else pairs_of word))
+          ≡ entry (Is (length (when one then [] else pairs_of word))) (sets buffer at (when one then [] else pairs_of word))
       go true none many odd o q = rw q refl
       go false true many odd o q = absurd (false≢true q)
       go false false true odd o q = absurd (false≢true q)
@@ -162,13 +162,13 @@ module _ (most : ℕ) (word buffer : List ℕ) (at : ℕ) (h : at + length word 
   none-into e = go (eqb (length word) 1) (eqb (length word) 0) (ltb most (length word / 2)) (eqb (length word % 2) 1) e
     where
       go : (one none many odd : Bool)
-          → (if one then eqb (get_or word 0 0) 45 else if none then false else if many then false else if odd then false else all_digits_lem word) ≡ false
-          → (if one then entry (if eqb (get_or word 0 0) 45 then Is 0 else Not) buffer
-          else if none then entry Not buffer
-          else if many then entry Not buffer
-          else if odd then entry Not buffer
-          else if ltb (length buffer) at then entry Not buffer
-          else if ltb (length buffer - at) (length word / 2) then entry Not buffer
+          → (when one then eqb (get_or word 0 0) 45 else when none then false else when many then false else when odd then false else all_digits_lem word) ≡ false
+          → (when one then entry (when eqb (get_or word 0 0) 45 then Is 0 else Not) buffer
+          else when none then entry Not buffer
+          else when many then entry Not buffer
+          else when odd then entry Not buffer
+          else when ltb (length buffer) at then entry Not buffer
+          else when ltb (length buffer - at) (length word / 2) then entry Not buffer
           else pairs_into word buffer at 0).count ≡ Not
       go true none many odd q = rw q refl
       go false true many odd q = refl

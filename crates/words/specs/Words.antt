@@ -1,6 +1,6 @@
 -- Words of a line, and what each stands for.
 use Rattle.std.specs.Prelude.{ℕ, suc, ◌+◌, ◌*◌, ◌/◌, ◌%◌, Bool, true, false, List, [], ◌∷◌, ltb, eqb, length, get_or, drop}
-use Rattle.octets.specs.Choice.{if◌then◌else◌}
+use Rattle.octets.specs.Choice.{when◌then◌else◌}
 use Rattle.words.specs.Digits.{value_of}
 use Rattle.words.specs.declared.Number.{Number}
 use Rattle.words.specs.declared.Number.TheVariants.{Is, Not}
@@ -8,7 +8,7 @@ use Rattle.words.specs.declared.Number.TheVariants.{Is, Not}
 -- how many octets stand before the first space
 unfoldable pub word_length : List ℕ → ℕ
 word_length [] = 0
-word_length (c ∷ cs) = if eqb c 32 then 0 else suc (word_length cs)
+word_length (c ∷ cs) = when eqb c 32 then 0 else suc (word_length cs)
 
 -- where the word that begins at octet `from` ends: at the first space from
 -- there on, or at the line's end
@@ -20,42 +20,42 @@ unfoldable pub same : List ℕ → List ℕ → Bool
 same [] [] = true
 same [] (b ∷ ys) = false
 same (a ∷ xs) [] = false
-same (a ∷ xs) (b ∷ ys) = if eqb a b then same xs ys else false
+same (a ∷ xs) (b ∷ ys) = when eqb a b then same xs ys else false
 
 -- the number that decimal digits go on to, after digits that stand for v; it may not pass `most`
 unfoldable pub digits_from : ℕ → ℕ → List ℕ → Number
 digits_from most v [] = Is v
 digits_from most v (c ∷ cs) =
-    if ltb 9 (value_of c) then Not
-    else if ltb most (10 * v + value_of c) then Not
+    when ltb 9 (value_of c) then Not
+    else when ltb most (10 * v + value_of c) then Not
     else digits_from most (10 * v + value_of c) cs
 
 -- a number: decimal digits alone, one to ten of them, up to `most`
 unfoldable pub number_of : ℕ → List ℕ → Number
 number_of most word =
-    if eqb (length word) 0 then Not
-    else if ltb 10 (length word) then Not
+    when eqb (length word) 0 then Not
+    else when ltb 10 (length word) then Not
     else digits_from most 0 word
 
 -- whether each octet is a hexadecimal digit
 unfoldable pub all_digits_lem : List ℕ → Bool
 all_digits_lem [] = true
-all_digits_lem (c ∷ cs) = if ltb 15 (value_of c) then false else all_digits_lem cs
+all_digits_lem (c ∷ cs) = when ltb 15 (value_of c) then false else all_digits_lem cs
 
 -- whether a word stands for octets: `-` for none, or two hexadecimal digits for each of 1 to `most`
 unfoldable pub are_octets : ℕ → List ℕ → Bool
 are_octets most word =
-    if eqb (length word) 1 then eqb (get_or word 0 0) 45
-    else if eqb (length word) 0 then false
-    else if ltb most (length word / 2) then false
-    else if eqb (length word % 2) 1 then false
+    when eqb (length word) 1 then eqb (get_or word 0 0) 45
+    else when eqb (length word) 0 then false
+    else when ltb most (length word / 2) then false
+    else when eqb (length word % 2) 1 then false
     else all_digits_lem word
 
 -- one octet: two hexadecimal digits, the high half first
 unfoldable pub octet_of_lem : List ℕ → Number
 octet_of_lem word =
-    if eqb (length word) 2
-    then (if all_digits_lem word
+    when eqb (length word) 2
+    then (when all_digits_lem word
     then Is ((16 * value_of (get_or word 0 0) + value_of (get_or word 1 0)) % 256) else Not)
     else Not
 
@@ -67,4 +67,4 @@ pairs_of (a ∷ b ∷ cs) = (16 * value_of a + value_of b) % 256 ∷ pairs_of cs
 
 -- the octets that a word stands for
 unfoldable pub octets_of : List ℕ → List ℕ
-octets_of word = if eqb (length word) 1 then [] else pairs_of word
+octets_of word = when eqb (length word) 1 then [] else pairs_of word

@@ -1,8 +1,9 @@
 // Words of a line, and what each stands for: a number in decimal digits, or octets in hexadecimal
 // ones. Definitions, theorems and types.
+#![tactic(auto)]
 
 // A number, or that the word is none.
-#[derive(Drop)]
+#[derive(Clone, Copy)]
 pub enum Number {
     Is(u32),
     Not,

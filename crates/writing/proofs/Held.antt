@@ -8,7 +8,7 @@ use borrow.Author.Tests.{le-ltb}
 use lib.Dec.{ltb}
 use lib.ListN.{length}
 use Rattle.octets.specs.Octet.{AllOctets}
-use Rattle.octets.specs.Choice.{if◌then◌else◌}
+use Rattle.octets.specs.Choice.{when◌then◌else◌}
 use Rattle.octets.proofs.Octet.{Within, within-right, within-head}
 use Rattle.layout.specs.declared.Shape.{Shape}
 use Rattle.parts.specs.declared.Parts.{Parts}
@@ -19,7 +19,7 @@ use Rattle.parts.specs.Spans.{part_of}
 use Rattle.writing.proofs.Placed.{Pieces, pieced}
 use Rattle.writing.proofs.Again.{compact-is}
 
-one-within : (x : ℕ) (t : Bool) → x < 256 → (if ltb 255 x then true else t) ≡ t
+one-within : (x : ℕ) (t : Bool) → x < 256 → (when ltb 255 x then true else t) ≡ t
 one-within x t h = let l : x ≤ 255 = omega arith in simp (le-ltb _ _ l)
 
 within_held : (m : List ℕ) (u : ℕ) (r : List ℕ) → AllOctets m → Within m u r → exceeds r ≡ false
@@ -39,7 +39,7 @@ unfolding exceeds
 exceeds-append [] b h = refl
 exceeds-append (x ∷ a) b h = go (ltb 255 x) h (exceeds-append a b)
   where
-    go : (t : Bool) → (if t then true else exceeds a) ≡ false → (exceeds a ≡ false → exceeds (a ++ b) ≡ exceeds b) → (if t then true else exceeds (a ++ b)) ≡ exceeds b
+    go : (t : Bool) → (when t then true else exceeds a) ≡ false → (exceeds a ≡ false → exceeds (a ++ b) ≡ exceeds b) → (when t then true else exceeds (a ++ b)) ≡ exceeds b
     go true h ih = absurd (let z : ◌≡◌ {A = ℕ} 0 1 = cc in omega arith)
     go false h ih = ih h
 

@@ -9,7 +9,7 @@ use native.Mathlib.Omega.{arith}
 use borrow.Author.Tests.{lt-ltb, ltb-true, ltb-false, eqb-false}
 use lib.Dec.{ltb, eqb}
 use lib.ListN.{length}
-use Rattle.octets.specs.Choice.{if◌then◌else◌}
+use Rattle.octets.specs.Choice.{when◌then◌else◌}
 use Rattle.octets.specs.Answer.{◌then◌}
 use Rattle.octets.specs.Filled.{room_for}
 use Rattle.octets.specs.Faults.{Judges, fault}
@@ -27,7 +27,7 @@ use Rattle.writing.proofs.Plain.{fits-exactly, plain-exceeds}
 use Rattle.writing.proofs.Taken.{written-taken}
 
 -- one of two holds
-either-of : (t u : Bool) → (if t then true else u) ≡ true → (t ≡ true) ⊎ (u ≡ true)
+either-of : (t u : Bool) → (when t then true else u) ≡ true → (t ≡ true) ⊎ (u ≡ true)
 either-of true u h = inl refl
 either-of false u h = inr h
 
@@ -38,7 +38,7 @@ beyond-says false p h = absurd (let z : ◌≡◌ {A = ℕ} 0 1 = cc in omega ar
 reach-says : (r g : ℕ) → ltb 255 (reach r g) ≡ true → (0 < r) × (255 < g)
 reach-says r g h = go (ltb 0 r) refl h
   where
-    go : (t : Bool) → ltb 0 r ≡ t → ltb 255 (if t then g else 0) ≡ true → (0 < r) × (255 < g)
+    go : (t : Bool) → ltb 0 r ≡ t → ltb 255 (when t then g else 0) ≡ true → (0 < r) × (255 < g)
     go true e h = (ltb-true _ _ e, ltb-true _ _ h)
     go false e h = absurd (let z : ◌≡◌ {A = ℕ} 0 1 = cc in omega arith)
 
@@ -66,7 +66,7 @@ exceeds-exactly s o f = (λ h. there (sym (plain-exceeds s o f) ∙ h), λ x. pl
     there : unheld s (lengths_of o) ≡ true → Exceeds s o
     there h = ⊎_elim long far (either-of (too_long_lem (lengths_of o)) (too_far_lem s.vars (pointers_of_lem s (lengths_of o))) h)
 
-    or-true : (t u : Bool) → (t ≡ true) ⊎ (u ≡ true) → (if t then true else u) ≡ true
+    or-true : (t u : Bool) → (t ≡ true) ⊎ (u ≡ true) → (when t then true else u) ≡ true
     or-true true u x = refl
     or-true false u x = ⊎_elim (λ e. absurd (let z : ◌≡◌ {A = ℕ} 0 1 = cc in omega arith)) (λ e. e) x
 
@@ -109,7 +109,7 @@ unfit-says s o h =
     lacks-says n k c h =
         ⊎_elim (λ t. absurd (let e = t.1 in let z : ◌≡◌ {A = ℕ} 0 1 = cc in omega arith)) (λ f. (ltb-false _ _ f.0, ltb-true 0 (length c) f.1)) (chosen (ltb k n) h)
 
-    last : (t : Bool) → s.opt ≡ t → (if t then false else ltb 0 (length o.run)) ≡ true → (s.opt ≡ false) × (0 < length o.run)
+    last : (t : Bool) → s.opt ≡ t → (when t then false else ltb 0 (length o.run)) ≡ true → (s.opt ≡ false) × (0 < length o.run)
     last true e h = absurd (let z : ◌≡◌ {A = ℕ} 0 1 = cc in omega arith)
     last false e h = (e, ltb-true 0 (length o.run) h)
 

@@ -8,7 +8,7 @@ use borrow.Author.Tests.{ltb-false}
 use lib.Dec.{ltb}
 use lib.ListN.{length, take, drop}
 use Rattle.octets.specs.Octet.{AllOctets}
-use Rattle.octets.specs.Choice.{if◌then◌else◌}
+use Rattle.octets.specs.Choice.{when◌then◌else◌}
 use Rattle.octets.specs.Answer.{accepted}
 use Rattle.parts.specs.declared.Span.{Span}
 use Rattle.layout.specs.declared.Shape.{Shape}
@@ -58,7 +58,7 @@ unfolding exceeds
 held-split [] b h = (refl, h)
 held-split (x ∷ a) b h = go (ltb 255 x) h (held-split a b)
   where
-    go : (t : Bool) → (if t then true else exceeds (a ++ b)) ≡ false → (exceeds (a ++ b) ≡ false → (exceeds a ≡ false) × (exceeds b ≡ false)) → ((if t then true else exceeds a) ≡ false) × (exceeds b ≡ false)
+    go : (t : Bool) → (when t then true else exceeds (a ++ b)) ≡ false → (exceeds (a ++ b) ≡ false → (exceeds a ≡ false) × (exceeds b ≡ false)) → ((when t then true else exceeds a) ≡ false) × (exceeds b ≡ false)
     go true h ih = absurd (let z : ◌≡◌ {A = ℕ} 0 1 = cc in omega arith)
     go false h ih = ih h
 

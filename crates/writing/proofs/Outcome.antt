@@ -9,7 +9,7 @@ use borrow.Author.Tests.{lt-ltb, le-ltb}
 use lib.Dec.{ltb}
 use lib.ListN.{length}
 use lib.Seq.{sets}
-use Rattle.octets.specs.Choice.{if◌then◌else◌}
+use Rattle.octets.specs.Choice.{when◌then◌else◌}
 use Rattle.octets.specs.Answer.{Answer, accepted, refused, ◌then◌}
 use Rattle.octets.specs.Filled.{leaving, filled}
 use Rattle.octets.proofs.Filled.{sets-filled}
@@ -33,7 +33,7 @@ a-run true e h = sym e
 a-run false e h = absurd (let z : ◌≡◌ {A = ℕ} 0 1 = cc in omega arith)
 
 -- two tests, and then what is done with a frame
-tested : (t u : Bool) (f : Frame) (k : Frame → Answer (ℕ × List ℕ)) → (if t then refused 12 0 else if u then refused 2 0 else k f) ≡ ((if t then refused 12 0 else if u then refused 2 0 else accepted f) then k)
+tested : (t u : Bool) (f : Frame) (k : Frame → Answer (ℕ × List ℕ)) → (when t then refused 12 0 else when u then refused 2 0 else k f) ≡ ((when t then refused 12 0 else when u then refused 2 0 else accepted f) then k)
 tested true u f k = refl
 tested false true f k = refl
 tested false false f k = refl

@@ -9,7 +9,7 @@ use borrow.Author.Tests.{lt-ltb, le-ltb, eq-eqb, ltb-false, eqb-true}
 use lib.Dec.{ltb, eqb}
 use lib.ListN.{length, take, length-append}
 use lib.Seq.{take-nil}
-use Rattle.octets.specs.Choice.{if◌then◌else◌}
+use Rattle.octets.specs.Choice.{when◌then◌else◌}
 use Rattle.octets.proofs.Choice.{chosen}
 use Rattle.layout.specs.declared.Shape.{Shape}
 use Rattle.layout.specs.Container.{bit}
@@ -28,11 +28,11 @@ lacks-not n k c h l = empty_of c (ltb-false 0 (length c) (simp (le-ltb _ _ l) at
 not-lacks : (n k : ℕ) (c : List ℕ) → (n ≤ k → c ≡ []) → lacks_of n k c ≡ false
 not-lacks n k c h = go (ltb k n) refl
   where
-    go : (t : Bool) → ltb k n ≡ t → (if t then false else ltb 0 (length c)) ≡ false
+    go : (t : Bool) → ltb k n ≡ t → (when t then false else ltb 0 (length c)) ≡ false
     go true e = refl
     go false e = ap (λ l. ltb 0 (length l)) (h (ltb-false _ _ e))
 
-run-last : (o : Bool) (r : List ℕ) → (o ≡ false → r ≡ []) → (t : Bool) → o ≡ t → (if t then false else ltb 0 (length r)) ≡ false
+run-last : (o : Bool) (r : List ℕ) → (o ≡ false → r ≡ []) → (t : Bool) → o ≡ t → (when t then false else ltb 0 (length r)) ≡ false
 run-last o r h true e = refl
 run-last o r h false e = ap (λ l. ltb 0 (length l)) (h e)
 
@@ -62,7 +62,7 @@ fits-exactly s o = (there, back)
 
     back : Fits s o → unfit_of s o.fixed o.first o.second o.third o.run ≡ false
     back f =
-        let last : (t : Bool) → s.opt ≡ t → (if t then false else ltb 0 (length o.run)) ≡ false = (λ t e. run-last s.opt o.run f.run t e) in
+        let last : (t : Bool) → s.opt ≡ t → (when t then false else ltb 0 (length o.run)) ≡ false = (λ t e. run-last s.opt o.run f.run t e) in
         simp (le-ltb _ _ f.few, eq-eqb _ _ f.fixed, not-lacks s.vars 0 o.first f.first, not-lacks s.vars 1 o.second f.second, not-lacks s.vars 2 o.third f.third)
         (last s.opt refl)
 
@@ -204,16 +204,16 @@ unfolding exceeds
 last-exceeds false r g h = rw (h refl) refl
 last-exceeds true r g h = both (ltb 255 (reach (length r) g))
   where
-    both : (t : Bool) → (if t then true else false) ≡ t
+    both : (t : Bool) → (when t then true else false) ≡ t
     both true = refl
     both false = refl
 
-first-within : (o : Bool) (k : ℕ) (x : Bool) → k ≤ 3 → (if ltb 255 (k + bit o) then true else x) ≡ x
+first-within : (o : Bool) (k : ℕ) (x : Bool) → k ≤ 3 → (when ltb 255 (k + bit o) then true else x) ≡ x
 first-within true k x h = let l : k + 1 ≤ 255 = omega arith in simp (le-ltb _ _ l)
 first-within false k x h = let l : k + 0 ≤ 255 = omega arith in simp (le-ltb _ _ l)
 
 -- one of three, or a fourth
-three-or : (t u v w : Bool) → (if t then true else if u then true else if v then true else w) ≡ (if (if t then true else if u then true else v) then true else w)
+three-or : (t u v w : Bool) → (when t then true else when u then true else when v then true else w) ≡ (when (when t then true else when u then true else v) then true else w)
 three-or true u v w = refl
 three-or false true v w = refl
 three-or false false v w = refl
@@ -224,7 +224,7 @@ module _ (o : Bool) (a b c r : List ℕ) (hr : o ≡ false → r ≡ []) where
 
   plain-marks : (n : ℕ) → Count n → (n ≤ 0 → a ≡ []) → (n ≤ 1 → b ≡ []) → (n ≤ 2 → c ≡ [])
       → exceeds (marks o (take n (a ∷ b ∷ c ∷ [])) r)
-      ≡ (if ltb 255 (length a) then true else if ltb 255 (length b) then true else if ltb 255 (length c) then true else too_far_lem n (record {
+      ≡ (when ltb 255 (length a) then true else when ltb 255 (length b) then true else when ltb 255 (length c) then true else too_far_lem n (record {
         first = count_of n + bit o;
         second = count_of n + bit o + length a;
         third = count_of n + bit o + length a + length b;
@@ -234,17 +234,17 @@ module _ (o : Bool) (a b c r : List ℕ) (hr : o ≡ false → r ≡ []) where
   plain-marks n none ha hb hc = rw (ha (omega arith), hb (omega arith), hc (omega arith)) (last (0 + bit o) (0 + bit o + 0 + 0 + 0) (omega arith))
   plain-marks n one ha hb hc =
       rw (hb (omega arith), hc (omega arith))
-      (ap (λ x. if ltb 255 (length a) then true else x) (first-within o 1 (exceeds (run_pointer o (1 + bit o + length a) r)) (omega arith) ∙ last (1 + bit o + length a) (1 + bit o + length a + 0 + 0) (omega arith)))
+      (ap (λ x. when ltb 255 (length a) then true else x) (first-within o 1 (exceeds (run_pointer o (1 + bit o + length a) r)) (omega arith) ∙ last (1 + bit o + length a) (1 + bit o + length a + 0 + 0) (omega arith)))
   plain-marks n two ha hb hc =
       rw (hc (omega arith))
-      (ap (λ x. if ltb 255 (length a) then true else if ltb 255 (length b) then true else x)
-      (first-within o 2 (if ltb 255 (2 + bit o + length a) then true else exceeds (run_pointer o (2 + bit o + length a + length b) r)) (omega arith)
-      ∙ ap (λ x. if ltb 255 (2 + bit o + length a) then true else x) (last (2 + bit o + length a + length b) (2 + bit o + length a + length b + 0) (omega arith))))
+      (ap (λ x. when ltb 255 (length a) then true else when ltb 255 (length b) then true else x)
+      (first-within o 2 (when ltb 255 (2 + bit o + length a) then true else exceeds (run_pointer o (2 + bit o + length a + length b) r)) (omega arith)
+      ∙ ap (λ x. when ltb 255 (2 + bit o + length a) then true else x) (last (2 + bit o + length a + length b) (2 + bit o + length a + length b + 0) (omega arith))))
   plain-marks n (more k) ha hb hc =
       simp (take-nil {A = List ℕ} k, three₁ k, three₂ k, three₃ k)
-      (ap (λ x. if ltb 255 (length a) then true else if ltb 255 (length b) then true else if ltb 255 (length c) then true else x)
-      (first-within o 3 (if ltb 255 (3 + bit o + length a) then true else if ltb 255 (3 + bit o + length a + length b) then true else exceeds (run_pointer o (3 + bit o + length a + length b + length c) r)) (omega arith)
-      ∙ ap (λ x. if ltb 255 (3 + bit o + length a) then true else if ltb 255 (3 + bit o + length a + length b) then true else x) (last (3 + bit o + length a + length b + length c) (3 + bit o + length a + length b + length c) refl)))
+      (ap (λ x. when ltb 255 (length a) then true else when ltb 255 (length b) then true else when ltb 255 (length c) then true else x)
+      (first-within o 3 (when ltb 255 (3 + bit o + length a) then true else when ltb 255 (3 + bit o + length a + length b) then true else exceeds (run_pointer o (3 + bit o + length a + length b + length c) r)) (omega arith)
+      ∙ ap (λ x. when ltb 255 (3 + bit o + length a) then true else when ltb 255 (3 + bit o + length a + length b) then true else x) (last (3 + bit o + length a + length b + length c) (3 + bit o + length a + length b + length c) refl)))
 
 pub plain-exceeds : (s : Shape) (o : Order) → Fits s o → exceeds (marks s.opt (contents_in s o) o.run) ≡ unheld s (lengths_of o)
 unfolding unheld too_long_lem

@@ -2,7 +2,7 @@
 -- parameters in pointer order right after them, then the optional part.
 -- The order is the paper's: 10, 11, 12, 2, 13.
 use Rattle.std.specs.Prelude.{ℕ, ◌+◌, ◌≤◌, ◌≡◌, Bool, true, false, List, [], ◌∷◌, ◌++◌, map, length, take, ltb}
-use Rattle.octets.specs.Choice.{if◌then◌else◌}
+use Rattle.octets.specs.Choice.{when◌then◌else◌}
 use Rattle.octets.specs.Answer.{Answer, accepted, refused, ◌then◌}
 use Rattle.octets.specs.Filled.{Done, done, room_for}
 use Rattle.layout.specs.declared.Shape.{Shape}
@@ -91,15 +91,15 @@ marks o vs r = map length vs ++ (pointers (gap_of o vs) vs ++ run_pointer o (ahe
 -- 12: one of them exceeds 255
 unfoldable pub exceeds : List ℕ → Bool
 exceeds [] = false
-exceeds (x ∷ xs) = if ltb 255 x then true else exceeds xs
+exceeds (x ∷ xs) = when ltb 255 x then true else exceeds xs
 
 -- the octets that are written, or 10, 11, 12, or 2 where they are more than the longest message has
 unfoldable pub written_of : Shape → ℕ → Order → Answer (ℕ × List ℕ)
 written_of s most o =
-    if unfit_of s o.fixed o.first o.second o.third o.run then refused 10 0
-    else if is_run_lem o.run then
-    (if exceeds (marks s.opt (contents_in s o) o.run) then refused 12 0
-    else if ltb most (length (order_octets s o)) then refused 2 0
+    when unfit_of s o.fixed o.first o.second o.third o.run then refused 10 0
+    else when is_run_lem o.run then
+    (when exceeds (marks s.opt (contents_in s o) o.run) then refused 12 0
+    else when ltb most (length (order_octets s o)) then refused 2 0
     else accepted (length (order_octets s o), order_octets s o))
     else refused 11 0
 

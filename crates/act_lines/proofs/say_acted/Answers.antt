@@ -1,0 +1,14 @@
+use Rattle.octets.specs.Told.{written_told}
+use Rattle.octets.specs.declared.Written.{Written}
+use Rattle.printing.specs.Sheet.{sheet, pour}
+use Rattle.act_lines.specs.Acts.{reply_line}
+use mathlib.Core.Path.{sym, ◌∙◌, ap}
+use Rattle.act_lines.proofs.say_acted.Goals as goal
+
+pub returns-in-Octets : goal.returns-in-Octets
+unfolding reply_line
+returns-in-Octets c = (rw c.stretch.ensures at c.put_shown.ensures) ∙ ap (λ (x : Written). pour (sheet c.args.out.now 0) (reply_line (written_told x) c.args.buffer.now)) (sym c.in-Octets.is)
+
+pub returns-in-Refused : goal.returns-in-Refused
+unfolding reply_line
+returns-in-Refused c = c.say_fault.ensures ∙ ap (λ (x : Written). pour (sheet c.args.out.now 0) (reply_line (written_told x) c.args.buffer.now)) (sym c.in-Refused.is)

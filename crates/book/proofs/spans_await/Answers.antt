@@ -1,0 +1,8 @@
+use Rattle.octets.proofs.Tests.{tests}
+use Rattle.book.proofs.spans_await.Goals as goal
+
+pub returns-then-n-eq0 : goal.returns-then-n-eq0
+returns-then-n-eq0 c = search tests
+
+pub returns : goal.returns
+returns c = search tests

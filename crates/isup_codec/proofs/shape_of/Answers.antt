@@ -1,0 +1,10 @@
+use mathlib.Core.Path.{◌∙◌}
+use native.Mathlib.Omega.{arith}
+use Rattle.isup.specs.Table.{shape_of}
+use Rattle.isup.proofs.Table.{table-says}
+use Rattle.isup_codec.proofs.shape_of.Goals as goal
+
+-- the one test: antt computes that the code's table has the packed row of each of the 256 octets
+pub returns : goal.returns
+unfolding shape_of
+returns c = c.row_of.ensures ∙ table-says c.args.kind (omega arith)

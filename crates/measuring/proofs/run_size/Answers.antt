@@ -1,0 +1,8 @@
+use Rattle.octets.proofs.Tests.{tests}
+use Rattle.measuring.proofs.run_size.Goals as goal
+
+pub returns-then-r-gt0 : goal.returns-then-r-gt0
+returns-then-r-gt0 c = search tests
+
+pub returns : goal.returns
+returns c = search tests

@@ -1,0 +1,7 @@
+use Rattle.read_lines.specs.Read.{read_line}
+use Rattle.lines.proofs.Pouring.{and_then}
+use Rattle.message_lines.proofs.say_message.Goals as goal
+
+pub returns : goal.returns
+unfolding read_line
+returns c = let t1 = and_then _ _ _ c.put_count-circuit.ensures c.put_shown-kind.ensures in let t2 = and_then _ _ _ t1 c.put_parts.ensures in t2

@@ -1,0 +1,8 @@
+use mathlib.Core.List.{[]}
+use Rattle.requests.proofs.Said.{number-at}
+use Rattle.table_lines.proofs.spread_asked.Goals as goal
+
+pub returns : goal.returns
+returns c =
+    let f = c.args.request.fields in
+    rw (number-at [] f 0, number-at [] f 1, number-at [] f 2) c.spread_said.ensures
