@@ -2,24 +2,25 @@
 #![tactic(auto)]
 
 ghost use Rattle.std.specs.Prelude.{◌≡◌};
-ghost use Rattle.octets.specs.Told.{written_told};
+ghost use Rattle.octets.specs.Told.{told};
 ghost use Rattle.printing.specs.Sheet.{sheet, pour};
 ghost use Rattle.requests.specs.Along.{said_in};
 ghost use Rattle.table_lines.specs.Tables.{desk_tables, left, left_by};
 ghost use Rattle.act_lines.specs.Acts.{reply_line, act_turn_lem};
 
-use octets::Written;
+use octets::{Numbered, Refusal};
 use requests::Request;
 
 // What the hub answered, its octets at the front of a buffer; or the
 // refusal with the reader's octet.
-fn say_acted(acted: Written, buffer: &[u8], out: &mut [u8]) -> usize
+#[tactic(auto, unfolding(crate::specs::Acts::reply_line))]
+fn say_acted(acted: Result<usize, Refusal>, buffer: &[u8], out: &mut [u8]) -> usize
     ensures { sheet out.new result ≡
-        pour (sheet out.old 0) (reply_line (written_told acted) buffer.now) }
+        pour (sheet out.old 0) (reply_line (told acted) buffer.now) }
 {
     match acted {
-        Written::Octets(n) => sayings::put_shown(b"answer ", pieces::stretch(buffer, 0, n), out, 0),
-        Written::Refused(n, at) => sayings::say_fault(n, at, out),
+        Ok(n) => sayings::put_shown(b"answer ", pieces::stretch(buffer, 0, n), out, 0),
+        Err(why) => sayings::say_fault(why.number(), why.place(), out),
     }
 }
 

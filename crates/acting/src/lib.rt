@@ -3,12 +3,11 @@
 #![tactic(auto)]
 
 ghost use Rattle.std.specs.Prelude.{◌≡◌};
-ghost use Rattle.octets.specs.Told.{written_told};
+ghost use Rattle.octets.specs.Told.{told};
 ghost use Rattle.rights.specs.Tables.{tables};
 ghost use Rattle.hub.specs.Acts.{after, act_of};
 
-use hub::Handled;
-use octets::Written;
+use octets::Refusal;
 
 // A message from a sender, as `handling::handle` has it: how many octets the
 // answer has, or the refusal.
@@ -19,13 +18,11 @@ pub fn act(
     sender: u32,
     message: &[u8],
     answer: &mut [u8],
-) -> Written
-    ensures { after (written_told result) states.new answer.new ≡
+) -> Result<usize, Refusal>
+    ensures { after (told result) states.new answer.new ≡
         act_of (tables states.old owners.now helpers.now) sender
         message.now answer.old }
 {
-    match handling::handle(states, owners, helpers, sender, message, answer) {
-        Handled::Refused(n, at) => Written::Refused(n, at),
-        Handled::Done(n, _, _) => Written::Octets(n),
-    }
+    let done = handling::handle(states, owners, helpers, sender, message, answer)?;
+    Ok(done.count)
 }

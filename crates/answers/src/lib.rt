@@ -7,6 +7,8 @@ ghost use Rattle.printing.specs.Sheet.{sheet};
 ghost use Rattle.turns.specs.Turns.{desk_from, desk_left, desk_left_by};
 ghost use Rattle.answers.specs.Answers.{turn_in, with_line_end};
 
+use octets::{Numbered, Refusal};
+
 // The octets of scratch that a line asks for.
 const SCRATCH_LEAST: usize = 41032;
 
@@ -39,7 +41,7 @@ fn answer_line(
             request, scratch, states, owners, helpers, totals, ticks, out,
         );
     }
-    sayings::say_refusal(16, out)
+    sayings::say_refusal(Refusal::WrongTables.number(), out)
 }
 
 // Answers a line: the tables are as the request left them, and the answer's line, with its LF, is

@@ -2,14 +2,15 @@
 #![tactic(auto)]
 
 ghost use Rattle.std.specs.Prelude.{◌≡◌, ◌+◌, ◌≤◌, length};
+ghost use Rattle.octets.specs.Told.{told};
 ghost use Rattle.octets.specs.Answer.{accepted};
 ghost use Rattle.isup.specs.Limits.{last_circuit};
 ghost use Rattle.asks.specs.Asks.{broken_range, broken_group, one_ask, range_ask, group_ask, unbroken, asked_in, ask_of};
 ghost use Rattle.asks.specs.Inside.{Placed, looked};
-ghost use Rattle.asks.specs.Told.{verdict_told};
 
-use asks::{Ask, Verdict};
-use isup::{BLO, CGB, CGU, CQM, GRS, IAM, LAST_CIRCUIT, REL, RSC, Reading, UBL};
+use asks::Ask;
+use isup::{BLO, CGB, CGU, CQM, GRS, IAM, LAST_CIRCUIT, REL, RSC, UBL};
+use octets::Refusal;
 use parts::Span;
 use rows::Act;
 
@@ -21,28 +22,34 @@ const MOST_MARKS: usize = 32;
 
 // What GRS or CQM asks: 14 unless its contents are exactly the range's octet and the range is from
 // the least on, to 31, then 18.
-fn ask_range(message: &[u8], act: Act, circuit: usize, least: usize, contents: Span) -> Verdict
+fn ask_range(
+    message: &[u8],
+    act: Act,
+    circuit: usize,
+    least: usize,
+    contents: Span,
+) -> Result<Ask, Refusal>
     requires { (contents.from ≤ contents.to) × (contents.to ≤ length message.now)
         × (circuit ≤ last_circuit) }
-    ensures { verdict_told result ≡
+    ensures { told result ≡
         unbroken (broken_range least message.now contents)
         (range_ask message.now act circuit contents) }
 {
     let from = contents.from;
     if contents.to - from != 1 {
-        return Verdict::Refused(14, 0);
+        return Err(Refusal::BadContents);
     }
     let range = message[from] as usize;
     if range < least {
-        return Verdict::Refused(14, 0);
+        return Err(Refusal::BadContents);
     }
     if range > MOST_RANGE {
-        return Verdict::Refused(14, 0);
+        return Err(Refusal::BadContents);
     }
     if circuit + range > LAST_CIRCUIT as usize {
-        return Verdict::Refused(18, 0);
+        return Err(Refusal::PastLastCircuit);
     }
-    Verdict::Granted(Ask {
+    Ok(Ask {
         act,
         circuit,
         range,
@@ -53,38 +60,44 @@ fn ask_range(message: &[u8], act: Act, circuit: usize, least: usize, contents: S
 
 // What CGB or CGU asks: 14 unless the kind is 0 or 1, the range 1 to 255, the status as wide as it
 // says and its marks 32 at the most, then 18.
-fn ask_group(message: &[u8], act: Act, circuit: usize, indicator: u8, contents: Span) -> Verdict
+fn ask_group(
+    message: &[u8],
+    act: Act,
+    circuit: usize,
+    indicator: u8,
+    contents: Span,
+) -> Result<Ask, Refusal>
     requires { (contents.from ≤ contents.to) × (contents.to ≤ length message.now)
         × (circuit ≤ last_circuit) }
-    ensures { verdict_told result ≡
+    ensures { told result ≡
         unbroken (broken_group message.now indicator contents)
         (group_ask message.now act circuit indicator contents) }
 {
     let block = indicator % 4;
     if block > 1 {
-        return Verdict::Refused(14, 0);
+        return Err(Refusal::BadContents);
     }
     let from = contents.from;
     let size = contents.to - from;
     if size == 0 {
-        return Verdict::Refused(14, 0);
+        return Err(Refusal::BadContents);
     }
     let range = message[from] as usize;
     if range == 0 {
-        return Verdict::Refused(14, 0);
+        return Err(Refusal::BadContents);
     }
     if size != 1 + (range / 8 + 1) {
-        return Verdict::Refused(14, 0);
+        return Err(Refusal::BadContents);
     }
     let status = from + 1;
     let to = contents.to;
     if marks::marks_in(message[from], &message[status..to]) > MOST_MARKS {
-        return Verdict::Refused(14, 0);
+        return Err(Refusal::BadContents);
     }
     if circuit + range > LAST_CIRCUIT as usize {
-        return Verdict::Refused(18, 0);
+        return Err(Refusal::PastLastCircuit);
     }
-    Verdict::Granted(Ask {
+    Ok(Ask {
         act,
         circuit,
         range,
@@ -94,10 +107,10 @@ fn ask_group(message: &[u8], act: Act, circuit: usize, indicator: u8, contents: 
 }
 
 // What a message that names one circuit asks.
-fn ask_one(act: Act, circuit: usize) -> Verdict
-    ensures { verdict_told result ≡ accepted (one_ask act circuit) }
+fn ask_one(act: Act, circuit: usize) -> Result<Ask, Refusal>
+    ensures { told result ≡ accepted (one_ask act circuit) }
 {
-    Verdict::Granted(Ask {
+    Ok(Ask {
         act,
         circuit,
         range: 0,
@@ -109,9 +122,15 @@ fn ask_one(act: Act, circuit: usize) -> Verdict
 // What a message that reads asks, by its type, circuit, where its fixed part starts and its first
 // contents: 17 for a type that the hub does not act on, then 14, then 18.
 // The type octet is looked at here and nowhere else.
-fn ask_in(message: &[u8], kind: u8, circuit: usize, at: usize, contents: Span) -> Verdict
+fn ask_in(
+    message: &[u8],
+    kind: u8,
+    circuit: usize,
+    at: usize,
+    contents: Span,
+) -> Result<Ask, Refusal>
     requires { Placed message.now kind circuit at contents }
-    ensures { verdict_told result ≡
+    ensures { told result ≡
         asked_in message.now (looked kind circuit at contents) }
 {
     match kind {
@@ -124,20 +143,16 @@ fn ask_in(message: &[u8], kind: u8, circuit: usize, at: usize, contents: Span) -
         CGB => ask_group(message, Act::BlockGroup, circuit, message[at], contents),
         CGU => ask_group(message, Act::UnblockGroup, circuit, message[at], contents),
         CQM => ask_range(message, Act::Query, circuit, 0, contents),
-        _ => Verdict::Refused(17, 0),
+        _ => Err(Refusal::NotForHub),
     }
 }
 
 // What a message asks, from the message alone: the reader's numbers, 17, 14, 18.
-pub fn decode(message: &[u8]) -> Verdict
-    ensures { verdict_told result ≡ ask_of message.now }
+pub fn decode(message: &[u8]) -> Result<Ask, Refusal>
+    ensures { told result ≡ ask_of message.now }
 {
-    match isup_codec::read(message) {
-        Reading::Refused(n, at) => Verdict::Refused(n, at),
-        Reading::Read(x) => {
-            let parts = x.parts;
-            let fixed = parts.fixed;
-            ask_in(message, x.kind, x.circuit as usize, fixed.from, parts.first)
-        }
-    }
+    let x = isup_codec::read(message)?;
+    let parts = x.parts;
+    let fixed = parts.fixed;
+    ask_in(message, x.kind, x.circuit as usize, fixed.from, parts.first)
 }

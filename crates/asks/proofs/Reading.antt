@@ -8,6 +8,7 @@ use native.Mathlib.Omega.{arith}
 use borrow.Author.Tests.{lt-ltb, le-ltb, ltb-false, eqb-true, eqb-false}
 use lib.Dec.{ltb, eqb}
 use lib.ListN.{length}
+use Rattle.std.specs.Prelude.{Some}
 use Rattle.octets.specs.Octet.{AllOctets}
 use Rattle.octets.specs.Choice.{when◌then◌else◌}
 use Rattle.octets.specs.Answer.{accepted, ◌then◌}
@@ -16,7 +17,6 @@ use Rattle.parts.specs.declared.Span.{Span}
 use Rattle.parts.specs.Spans.{span_size}
 use Rattle.layout.specs.declared.Shape.{Shape}
 use Rattle.parts.specs.declared.Parts.{Parts}
-use Rattle.layout.specs.declared.Row.TheVariants.{Has}
 use Rattle.parts.specs.Overlap.{contents_of_lem, held}
 use Rattle.isup.specs.declared.Message.{Message}
 use Rattle.isup.specs.Table.{shape_of}
@@ -33,10 +33,10 @@ use Rattle.asks.specs.Asks.{range_in, block_kind, width, group_status, broken_ra
 use Rattle.asks.specs.Inside.{looked, Placed}
 use Rattle.asks.proofs.Types.{for-type}
 
-one-shape : (s : Shape) → Has (record { fixed = 1; vars = 1; opt = false }) ≡ Has s → s ≡ record { fixed = 1; vars = 1; opt = false }
+one-shape : (s : Shape) → Some (record { fixed = 1; vars = 1; opt = false }) ≡ Some s → s ≡ record { fixed = 1; vars = 1; opt = false }
 one-shape s e = let z : record { fixed = 1; vars = 1; opt = false } ≡ s = cc in sym z
 
-one-fixed : (s : Shape) → Has (record { fixed = 1; vars = 1; opt = false }) ≡ Has s → s.fixed ≡ 1
+one-fixed : (s : Shape) → Some (record { fixed = 1; vars = 1; opt = false }) ≡ Some s → s.fixed ≡ 1
 one-fixed s e = ap (λ (t : Shape). t.fixed) (one-shape s e)
 
 module _ (m : List ℕ) (x : Message) (f : WellFormed m x) where

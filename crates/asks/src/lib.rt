@@ -14,10 +14,3 @@ pub struct Ask {
     pub block: u8,
     pub status: usize,
 }
-
-// What a message asks, or the refusal's number with the octet that it is about.
-#[derive(Clone, Copy)]
-pub enum Verdict {
-    Granted(Ask),
-    Refused(u8, usize),
-}

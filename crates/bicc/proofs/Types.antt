@@ -8,12 +8,12 @@ use mathlib.Core.Logic.{◌⊎◌, inl, inr, ⊎_elim, ◌↔◌}
 use native.Mathlib.Omega.{arith}
 use native.Mathlib.Nat.{eq-or-lt_of_le}
 use lib.ListN.{length}
+use Rattle.std.specs.Prelude.{Some, None}
 use Rattle.octets.specs.Choice.{when◌then◌else◌}
 use Rattle.octets.specs.Among.{among, OneOf}
 use Rattle.octets.proofs.Among.{among_one, one-among}
 use Rattle.octets.proofs.Choice.{chosen, decided, true-false}
 use Rattle.layout.specs.declared.Shape.{Shape}
-use Rattle.layout.specs.declared.Row.TheVariants.{Has, Unknown}
 use Rattle.family.proofs.Table.{no_two, all_low}
 use Rattle.isup.specs.Table.{shape_of as isup_shape_of}
 use Rattle.isup.proofs.Table.{type_octets, types-exactly, table-two}
@@ -51,7 +51,7 @@ without-one t ts (x ∷ xs) o n = go (among x ts) refl (λ q. without-one t ts x
     go false e ih o = ⊎_elim (λ q. inl q) (λ q. inr (ih q)) o
 
 -- a type has ISUP's row, or is one of the four and has none
-pub row-of-isup : (t : ℕ) (s : Shape) → call_shape_of t ≡ Has s ↔ ((among t isup_only ≡ false) × (isup_shape_of t ≡ Has s))
+pub row-of-isup : (t : ℕ) (s : Shape) → call_shape_of t ≡ Some s ↔ ((among t isup_only ≡ false) × (isup_shape_of t ≡ Some s))
 unfolding call_shape_of
 row-of-isup t s = (
   λ e. ⊎_elim (λ x. absurd (let f = x.1 in let z : ◌≡◌ {A = ℕ} 0 1 = cc in omega arith)) (λ x. x) (chosen (among t isup_only) e),
@@ -59,14 +59,14 @@ row-of-isup t s = (
 )
 
 -- the table has a row for these, and for no other number
-pub bicc-types : (t : ℕ) → ((s : Shape) × (call_shape_of t ≡ Has s)) ↔ OneOf t bicc_octets
+pub bicc-types : (t : ℕ) → ((s : Shape) × (call_shape_of t ≡ Some s)) ↔ OneOf t bicc_octets
 bicc-types t = (
   λ x. let r = (row-of-isup t x.0).0 x.1 in without-one t isup_only type_octets ((types-exactly t).0 (x.0, r.1)) r.0,
   λ o. let r = one-without t isup_only type_octets o in let y = (types-exactly t).1 r.0 in (y.0, (row-of-isup t y.0).1 (r.1, y.1)),
 )
 
 -- the four are refused
-pub four-refused : (t : ℕ) → OneOf t isup_only → call_shape_of t ≡ Unknown
+pub four-refused : (t : ℕ) → OneOf t isup_only → call_shape_of t ≡ None
 unfolding call_shape_of
 four-refused t o = rw (one-among t isup_only o) refl
 
@@ -89,5 +89,5 @@ apart t h = ⊎_elim (λ e. beside 0x13 e (omega arith) (omega arith)) (⊎_elim
     beside k e l u = ⊎_elim (λ x. omega (arith, e)) (λ x. omega (arith, e)) h
 
 -- a row has at most two variable parts
-pub two : (t : ℕ) (s : Shape) → call_shape_of t ≡ Has s → s.vars ≤ 2
+pub two : (t : ℕ) (s : Shape) → call_shape_of t ≡ Some s → s.vars ≤ 2
 two t s e = table-two t s ((row-of-isup t s).0 e).1

@@ -1,9 +1,8 @@
 -- The table of types: ISUP's, without the types that the standard marks as ISUP only.
-use Rattle.std.specs.Prelude.{ℕ, List, [], ◌∷◌}
+use Rattle.std.specs.Prelude.{ℕ, List, [], ◌∷◌, Option, None}
 use Rattle.octets.specs.Choice.{when◌then◌else◌}
 use Rattle.octets.specs.Among.{among}
-use Rattle.layout.specs.declared.Row.{Row}
-use Rattle.layout.specs.declared.Row.TheVariants.{Unknown}
+use Rattle.layout.specs.declared.Shape.{Shape}
 use Rattle.family.specs.Family.{Family}
 use Rattle.isup.specs.Types.{BLO, UBL, BLA, UBA}
 use Rattle.isup.specs.Table.{shape_of as isup_shape_of}
@@ -13,8 +12,8 @@ abbrev pub isup_only : List ℕ
 isup_only = BLO ∷ UBL ∷ BLA ∷ UBA ∷ []
 
 -- what the table says of a type octet
-unfoldable pub call_shape_of : ℕ → Row
-call_shape_of t = when among t isup_only then Unknown else isup_shape_of t
+unfoldable pub call_shape_of : ℕ → Option Shape
+call_shape_of t = when among t isup_only then None else isup_shape_of t
 
 -- a message has 270 octets at the most
 abbrev pub longest_call : ℕ

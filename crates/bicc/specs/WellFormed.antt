@@ -1,9 +1,8 @@
 -- A well-formed BICC message, its compact form, and what a message says, as
 -- the paper says it: no order of reading.
-use Rattle.std.specs.Prelude.{ℕ, ◌≤◌, ◌≡◌, List, length}
+use Rattle.std.specs.Prelude.{ℕ, ◌≤◌, ◌≡◌, List, Some, length}
 use Rattle.octets.specs.Octet.{octet}
 use Rattle.layout.specs.declared.Shape.{Shape}
-use Rattle.layout.specs.declared.Row.TheVariants.{Has}
 use Rattle.layout.specs.Laid.{LaidOut}
 use Rattle.parts.specs.Spans.{part_of}
 use Rattle.runs.specs.Params.{Param}
@@ -20,7 +19,7 @@ pub record CallFormed (m : List ℕ) (x : Message) : Type 0 where
   pub most : length m ≤ longest_call
   pub code : x.code ≡ call_code_of m
   pub kind : x.kind ≡ octet m 4
-  pub listed : call_shape_of x.kind ≡ Has shape
+  pub listed : call_shape_of x.kind ≡ Some shape
   pub laid : LaidOut m 4 shape x.parts params
 
 -- variable parameters in pointer order right after the pointers, optional part

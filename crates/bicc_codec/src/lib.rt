@@ -3,22 +3,20 @@
 #![tactic(auto)]
 
 ghost use Rattle.std.specs.Prelude.{◌≡◌, ◌≤◌, length};
+ghost use Rattle.octets.specs.Told.{told};
 ghost use Rattle.octets.specs.Octet.{octets};
 ghost use Rattle.octets.specs.Filled.{leaving};
-ghost use Rattle.octets.specs.Told.{written_told};
 ghost use Rattle.bicc.specs.Table.{call_shape_of};
 ghost use Rattle.bicc.specs.Read.{call_code_of, call_read_of};
 ghost use Rattle.bicc.specs.Write.{call_write_of, call_compact_of};
-ghost use Rattle.bicc.specs.Told.{call_told};
 
-use bicc::{LONGEST, Message, Reading};
-use layout::Row;
-use octets::Written;
-use parts::Body;
+use bicc::{LONGEST, Message};
+use layout::Shape;
+use octets::Refusal;
 
 // What the table says of a type octet: ISUP's row, but that BLO, UBL, BLA and UBA, which stand
 // together, are ISUP's alone.
-pub fn shape_of(kind: u8) -> Row
+pub fn shape_of(kind: u8) -> Option<Shape>
     ensures { result ≡ call_shape_of kind }
 {
     if kind < isup::BLO {
@@ -27,7 +25,7 @@ pub fn shape_of(kind: u8) -> Row
     if isup::UBA < kind {
         return isup_codec::shape_of(kind);
     }
-    Row::Unknown
+    None
 }
 
 // The call instance code: four octets, the least significant first.
@@ -44,18 +42,16 @@ fn code_of(message: &[u8]) -> u32
 
 // Reads a message: its code, its type and where its parts stand; or the refusal's number with the
 // octet that it is about, 0 for 1 and 2.
-pub fn read(message: &[u8]) -> Reading
-    ensures { call_told result ≡ call_read_of message.now }
+pub fn read(message: &[u8]) -> Result<Message, Refusal>
+    ensures { told result ≡ call_read_of message.now }
 {
     let kind = heads::kind_at(message, 4);
-    match reading::read_parts(message, 4, LONGEST, shape_of(kind)) {
-        Body::Laid(parts) => Reading::Read(Message {
-            code: code_of(message),
-            kind,
-            parts,
-        }),
-        Body::Broken(n, at) => Reading::Refused(n, at),
-    }
+    let parts = reading::read_parts(message, 4, LONGEST, shape_of(kind))?;
+    Ok(Message {
+        code: code_of(message),
+        kind,
+        parts,
+    })
 }
 
 // Writes a message in its compact form: fills the front of `out` and keeps the rest, and answers
@@ -69,49 +65,47 @@ pub fn write(
     second: &[u8],
     optional: &[u8],
     out: &mut [u8],
-) -> Written
-    ensures { leaving (written_told result) out.new ≡
+) -> Result<usize, Refusal>
+    ensures { leaving (told result) out.new ≡
         call_write_of code kind fixed.now first.now second.now
         optional.now out.old }
 {
     if 255 < kind {
-        return Written::Refused(3, 0);
+        return Err(Refusal::UnknownType(0));
     }
     let octet = kind as u8;
-    match shape_of(octet) {
-        Row::Unknown => Written::Refused(3, 0),
-        Row::Has(shape) => {
-            let b = code / 256;
-            let c = b / 256;
-            let d = c / 256;
-            let head = [
-                (code % 256) as u8,
-                (b % 256) as u8,
-                (c % 256) as u8,
-                (d % 256) as u8,
-            ];
-            filling::write_parts(
-                shape,
-                LONGEST as u16,
-                &head,
-                octet,
-                fixed,
-                first,
-                second,
-                &optional[0..0],
-                optional,
-                out,
-            )
-        }
-    }
+    let Some(shape) = shape_of(octet) else {
+        return Err(Refusal::UnknownType(0));
+    };
+    let b = code / 256;
+    let c = b / 256;
+    let d = c / 256;
+    let head = [
+        (code % 256) as u8,
+        (b % 256) as u8,
+        (c % 256) as u8,
+        (d % 256) as u8,
+    ];
+    filling::write_parts(
+        shape,
+        LONGEST as u16,
+        &head,
+        octet,
+        fixed,
+        first,
+        second,
+        &optional[0..0],
+        optional,
+        out,
+    )
 }
 
 // Reads a message and writes it again, in its compact form: fills the front of `out` and keeps the
 // rest, and answers how many octets were written.
 // Refused with the reader's numbers and octets, then 12, then 13, and then
 // `out` holds what it held.
-pub fn compact(message: &[u8], out: &mut [u8]) -> Written
-    ensures { leaving (written_told result) out.new ≡
+pub fn compact(message: &[u8], out: &mut [u8]) -> Result<usize, Refusal>
+    ensures { leaving (told result) out.new ≡
         call_compact_of message.now out.old }
 {
     let row = shape_of(heads::kind_at(message, 4));

@@ -2,8 +2,8 @@
 #![tactic(auto)]
 
 ghost use Rattle.std.specs.Prelude.{◌≡◌};
+ghost use Rattle.octets.specs.Answer.{accepted};
 ghost use Rattle.bicc.specs.Read.{call_read_of};
-ghost use Rattle.bicc.specs.Told.{call_told};
 ghost use Rattle.bicc.specs.Write.{call_write_of, call_compact_of};
 ghost use Rattle.printing.specs.Sheet.{sheet, pour};
 ghost use Rattle.requests.specs.Words.{number_at, octets_at};
@@ -11,16 +11,17 @@ ghost use Rattle.requests.specs.Along.{said_in};
 ghost use Rattle.lines.specs.Lines.{octets_line, compact_line, lent};
 ghost use Rattle.bicc_lines.specs.Bicc.{code_line, bicc_line_lem};
 
-use bicc::{Message, Reading};
+use bicc::Message;
 use fields::Field;
 use forms::{BICC_READ, BICC_SHAPE, BICC_WRITE};
+use octets::Numbered;
 use requests::Request;
 
 // What a message says that reads so.
 fn say_message(message: &[u8], x: Message, out: &mut [u8]) -> usize
     ensures { sheet out.new result ≡
         pour (sheet out.old 0)
-        (code_line message.now (call_told (Reading.Read x))) }
+        (code_line message.now (accepted x)) }
 {
     let parts = x.parts;
     let code = sayings::put_count(b"code ", x.code as usize, out, 0);
@@ -35,8 +36,8 @@ fn say_read(message: &[u8], out: &mut [u8]) -> usize
         (code_line message.now (call_read_of message.now)) }
 {
     match bicc_codec::read(message) {
-        Reading::Refused(n, at) => sayings::say_fault(n, at, out),
-        Reading::Read(x) => say_message(message, x, out),
+        Err(why) => sayings::say_fault(why.number(), why.place(), out),
+        Ok(x) => say_message(message, x, out),
     }
 }
 

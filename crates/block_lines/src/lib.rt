@@ -3,24 +3,25 @@
 #![tactic(auto)]
 
 ghost use Rattle.std.specs.Prelude.{◌≡◌, []};
-ghost use Rattle.octets.specs.Told.{written_told};
+ghost use Rattle.octets.specs.Told.{told};
 ghost use Rattle.printing.specs.Sheet.{sheet, pour};
 ghost use Rattle.requests.specs.Along.{said_in};
 ghost use Rattle.block_lines.specs.Blocks.{notice_line, block_done, blocked, blocked_by};
 
 use forms::BLOCK;
-use octets::Written;
+use octets::{Numbered, Refusal};
 use requests::Request;
 
 // What the desk call answered, its octets at the front of a buffer, or the refusal.
-fn say_noticed(noticed: Written, buffer: &[u8], out: &mut [u8]) -> usize
+#[tactic(auto, unfolding(crate::specs::Blocks::notice_line))]
+fn say_noticed(noticed: Result<usize, Refusal>, buffer: &[u8], out: &mut [u8]) -> usize
     ensures { sheet out.new result ≡
         pour (sheet out.old 0)
-        (notice_line (written_told noticed) buffer.now) }
+        (notice_line (told noticed) buffer.now) }
 {
     match noticed {
-        Written::Octets(n) => sayings::put_shown(b"answer ", pieces::stretch(buffer, 0, n), out, 0),
-        Written::Refused(n, _) => sayings::say_refusal(n, out),
+        Ok(n) => sayings::put_shown(b"answer ", pieces::stretch(buffer, 0, n), out, 0),
+        Err(why) => sayings::say_refusal(why.number(), out),
     }
 }
 

@@ -3,17 +3,16 @@
 #![tactic(auto)]
 
 ghost use Rattle.std.specs.Prelude.{◌≡◌, ◌+◌, ◌*◌, ◌≤◌, ◌<◌, length};
+ghost use Rattle.octets.specs.Told.{told};
 ghost use Rattle.octets.specs.Octet.{octet};
 ghost use Rattle.octets.specs.Sum.{total};
 ghost use Rattle.octets.specs.Filled.{leaving};
-ghost use Rattle.octets.specs.Told.{written_told};
 ghost use Rattle.totals.specs.Blocks.{busy_in, block_count_lem, blocks_counted, recounted, rebuild_of};
 ghost use Rattle.totals.specs.Question.{count_between_lem, busy_between_lem};
-ghost use Rattle.totals.specs.Told.{asked_told};
 
-use octets::Written;
+use octets::Refusal;
 use rows::CIRCUITS;
-use totals::{Asked, Count};
+use totals::Count;
 
 // How many totals there are.
 pub const BLOCKS: usize = 64;
@@ -23,13 +22,7 @@ fn busy_rows(states: &[u8], first: usize, count: usize) -> u8
     requires { (first + count ≤ length states.now) × (count ≤ 255) }
     ensures { result ≡ busy_in states.now first count }
 {
-    let mut busy = 0u8;
-    let mut i = 0;
-    while i < count {
-        busy += states[first + i] % 2;
-        i += 1;
-    }
-    busy
+    states[first..first + count].iter().map(|row| row % 2).sum()
 }
 
 // How many rows of a block are busy, wherever the states end: what is past their end is not busy.
@@ -39,13 +32,8 @@ fn block_count(states: &[u8], block: usize) -> u8
     if block > states.len() / 64 {
         return 0;
     }
-    let mut busy = 0u8;
-    let mut i = 0;
-    while i < 64 {
-        busy += changes::octet_at(states, 64 * block + i) % 2;
-        i += 1;
-    }
-    busy
+    let rows = (states.len() - 64 * block).min(64);
+    busy_rows(states, 64 * block, rows)
 }
 
 // Counts the blocks from the first to the last anew, wherever states and totals end.
@@ -53,13 +41,11 @@ fn count_any(states: &[u8], totals: &mut [u8], first: usize, last: usize)
     ensures { totals.new ≡
         blocks_counted states.now first last totals.old }
 {
-    let mut block = first;
-    while block < totals.len() {
+    for block in first..totals.len() {
         if block > last {
             return;
         }
         totals[block] = block_count(states, block);
-        block += 1;
     }
 }
 
@@ -69,10 +55,8 @@ fn count_whole(states: &[u8], totals: &mut [u8], first: usize, last: usize)
     ensures { totals.new ≡
         blocks_counted states.now first last totals.old }
 {
-    let mut block = first;
-    while block <= last {
+    for block in first..last + 1 {
         totals[block] = busy_rows(states, 64 * block, 64);
-        block += 1;
     }
 }
 
@@ -93,18 +77,18 @@ pub fn recount(states: &[u8], totals: &mut [u8], first: usize, last: usize)
 
 // Makes every total the count of its rows, whatever it was: 64 totals are written. Refused with 16
 // where there are not 4096 states and 64 totals; a refusal keeps the totals.
-pub fn rebuild(states: &[u8], totals: &mut [u8]) -> Written
-    ensures { leaving (written_told result) totals.new ≡
+pub fn rebuild(states: &[u8], totals: &mut [u8]) -> Result<usize, Refusal>
+    ensures { leaving (told result) totals.new ≡
         rebuild_of states.now totals.old }
 {
     if states.len() != CIRCUITS {
-        return Written::Refused(16, 0);
+        return Err(Refusal::WrongTables);
     }
     if totals.len() != BLOCKS {
-        return Written::Refused(16, 0);
+        return Err(Refusal::WrongTables);
     }
     recount(states, totals, 0, CIRCUITS - 1);
-    Written::Octets(BLOCKS)
+    Ok(BLOCKS)
 }
 
 // The sum of the totals of `count` blocks from the first on, each looked at once.
@@ -112,13 +96,10 @@ fn blocks_sum(totals: &[u8], first: usize, count: usize) -> usize
     requires { (first + count ≤ length totals.now) × (count ≤ 64) }
     ensures { (result ≡ total (octet totals.now) first count) × (result ≤ 255 * count) }
 {
-    let mut sum = 0;
-    let mut i = 0;
-    while i < count {
-        sum += totals[first + i] as usize;
-        i += 1;
-    }
-    sum
+    totals[first..first + count]
+        .iter()
+        .map(|total| *total as usize)
+        .sum()
 }
 
 // How many of the circuits from the first to the last are busy: whole blocks by their totals, and
@@ -153,21 +134,21 @@ fn count_between(states: &[u8], totals: &[u8], first: usize, last: usize) -> Cou
 // and how many numbers were looked at, 188 at the most.
 // Refused in order: 16 where there are not 4096 states and 64 totals, 9 where the last is above
 // 4095, 18 where the first is above the last.
-pub fn busy_between(states: &[u8], totals: &[u8], first: u32, last: u32) -> Asked
-    ensures { asked_told result ≡
+pub fn busy_between(states: &[u8], totals: &[u8], first: u32, last: u32) -> Result<Count, Refusal>
+    ensures { told result ≡
         busy_between_lem states.now totals.now first last }
 {
     if states.len() != CIRCUITS {
-        return Asked::Refused(16);
+        return Err(Refusal::WrongTables);
     }
     if totals.len() != BLOCKS {
-        return Asked::Refused(16);
+        return Err(Refusal::WrongTables);
     }
     if last > 4095 {
-        return Asked::Refused(9);
+        return Err(Refusal::NoCircuit);
     }
     if first > last {
-        return Asked::Refused(18);
+        return Err(Refusal::PastLastCircuit);
     }
-    Asked::Busy(count_between(states, totals, first as usize, last as usize))
+    Ok(count_between(states, totals, first as usize, last as usize))
 }

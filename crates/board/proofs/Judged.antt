@@ -15,14 +15,15 @@ use Rattle.asks.specs.Asks.{ask_of}
 use Rattle.rights.specs.Tables.{Tables}
 use Rattle.hub.specs.Acts.{After, act_of}
 use Rattle.hub.specs.Desk.{desk_of}
-use Rattle.hub.specs.Deeds.{Deed, with_circuits}
+use Rattle.hub.specs.Deeds.{with_circuits}
+use Rattle.hub.specs.declared.Handled.{Handled}
 use Rattle.hub.proofs.Judged.{act-refuses-exactly, act-accepts-exactly}
 use Rattle.hub.proofs.Desk.{desk-refuses-exactly, desk-accepts-exactly}
 use Rattle.board.specs.Board.{board_after, totals_after, keeping, board_of, alone, desk_board_of}
 use Rattle.board.specs.Faults.{WrongTotals, board_faults, desk_board_faults}
 
 -- with the totals lent, 16 comes first also for them, and all else is as before
-kept-judges : (states totals buffer : List ℕ) (named : Answer ℕ → Answer Deed) (r : After) {P : Type 0} {fs : List Fault} → Judges r.answer (fault 16 0 P ∷ fs) → Judges (keeping states totals buffer named r).answer (fault 16 0 (P ⊎ WrongTotals totals) ∷ fs)
+kept-judges : (states totals buffer : List ℕ) (named : Answer ℕ → Answer Handled) (r : After) {P : Type 0} {fs : List Fault} → Judges r.answer (fault 16 0 P ∷ fs) → Judges (keeping states totals buffer named r).answer (fault 16 0 (P ⊎ WrongTotals totals) ∷ fs)
 kept-judges states totals buffer named r {P} {fs} j = go (eqb (length totals) 64) refl
   where
     go : (t : Bool) → eqb (length totals) 64 ≡ t → Judges (when t then board_after r.answer r.states (totals_after r.states (named r.answer) totals) r.buffer else board_after (refused 16 0) states totals buffer).answer (fault 16 0 (P ⊎ WrongTotals totals) ∷ fs)

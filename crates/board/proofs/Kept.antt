@@ -9,14 +9,14 @@ use native.Mathlib.Omega.{arith}
 use borrow.Author.Tests.{eq-eqb, ne_eqb, eqb-true}
 use lib.Dec.{eqb}
 use lib.ListN.{length}
+use Rattle.std.specs.Prelude.{Result, Ok, Err}
 use Rattle.octets.specs.Octet.{octet}
 use Rattle.octets.specs.Choice.{when◌then◌else◌}
 use Rattle.octets.specs.Answer.{Answer, accepted, refused}
-use Rattle.octets.specs.Told.{written_told}
-use Rattle.octets.specs.declared.Written.{Written}
-use Rattle.octets.specs.declared.Written.TheVariants.{Octets, Refused}
+use Rattle.octets.specs.Told.{refusal_number, refusal_place, told}
+use Rattle.octets.specs.declared.Refusal.{Refusal}
 use Rattle.octets.proofs.Answer.{accepted-same, refused-accepted}
-use Rattle.octets.proofs.Told.{written-told-injective}
+use Rattle.octets.proofs.Told.{told-injective}
 use Rattle.totals.specs.Blocks.{block_count_lem, Right, AllRight, recounted}
 use native.Mathlib.Decide.{dec_lt}
 use Rattle.totals.proofs.Recounted.{length-recounted, recounted-named, recounted-stays, block-or, all-right-stays}
@@ -24,19 +24,18 @@ use Rattle.asks.specs.declared.Ask.{Ask}
 use Rattle.asks.specs.Asks.{ask_of}
 use Rattle.asks.proofs.Reading.{ask-last}
 use Rattle.hub.specs.declared.Handled.{Handled}
-use Rattle.hub.specs.declared.Handled.TheVariants.{Done, Refused as Withheld}
 use Rattle.rights.specs.Tables.{Tables}
 use Rattle.hub.specs.Acts.{After, after, act_of}
 use Rattle.hub.specs.Desk.{desk_of}
 use Rattle.rights.specs.Names.{Names}
-use Rattle.hub.specs.Deeds.{Deed, deed, Handling, handling, with_circuits, handled_of, handled_told, unspanned}
+use Rattle.hub.specs.Deeds.{deed, Handling, handling, with_circuits, handled_of, unspanned}
 use Rattle.hub.proofs.Called.{call-accepted, act-keeps, buffer-length, untouched}
 use Rattle.hub.proofs.Desk.{desk-keeps, desk-called, desk-buffer-length, desk-untouched}
 use Rattle.hub.proofs.Deeds.{forget}
 use Rattle.board.specs.Board.{BoardAfter, board_after, totals_after, keeping, board_of, alone, desk_board_of}
 
 -- ---- a call on rows, with the totals kept, whatever the call is
-module _ (states totals buffer : List ℕ) (named : Answer ℕ → Answer Deed) (r : After) where
+module _ (states totals buffer : List ℕ) (named : Answer ℕ → Answer Handled) (r : After) where
   -- there are not 64 totals
   pub kept-short : (length totals ≡ 64 → ⊥) → board_after (refused 16 0) states totals buffer ≡ keeping states totals buffer named r
   kept-short n = rw (ne_eqb _ _ n) refl
@@ -57,7 +56,7 @@ module _ (states totals buffer : List ℕ) (named : Answer ℕ → Answer Deed) 
   pub kept-length : length (keeping states totals buffer named r).totals ≡ length totals
   kept-length = go (eqb (length totals) 64) (named r.answer)
     where
-      go : (t : Bool) (x : Answer Deed) → length (when t then board_after r.answer r.states (totals_after r.states x totals) r.buffer else board_after (refused 16 0) states totals buffer).totals ≡ length totals
+      go : (t : Bool) (x : Answer Handled) → length (when t then board_after r.answer r.states (totals_after r.states x totals) r.buffer else board_after (refused 16 0) states totals buffer).totals ≡ length totals
       go true (accepted d) = length-recounted r.states d.first d.last totals
       go true (refused n at) = refl
       go false x = refl
@@ -89,7 +88,7 @@ module _ (T : Tables) (totals : List ℕ) (sender : ℕ) (m buffer : List ℕ) w
         q,
         w.0,
         ap (λ (y : BoardAfter). y.totals) k
-            ∙ ap (λ (g : Answer Deed). totals_after (act_of T sender m buffer).states g totals) (ap (with_circuits (ask_of m)) w.1 ∙ spanned-is m x n q)
+            ∙ ap (λ (g : Answer Handled). totals_after (act_of T sender m buffer).states g totals) (ap (with_circuits (ask_of m)) w.1 ∙ spanned-is m x n q)
             ∙ ap (λ (l : List ℕ). recounted l x.circuit (x.circuit + x.range) totals) (sym (ap (λ (y : BoardAfter). y.states) k)),
       )
 
@@ -180,19 +179,19 @@ module _ (T : Tables) (totals : List ℕ) (sender : ℕ) (m buffer : List ℕ) w
   unfolding board_of
   board-short n = kept-short T.states totals buffer (with_circuits (ask_of m)) (act_of T sender m buffer) n
 
-  module _ (sixty-four : length totals ≡ 64) (r : Handled) (states left : List ℕ) (e : handling (handled_told r) states left ≡ handled_of T sender m buffer) where
-    handled-kept : {h : Answer Deed} → handled_told r ≡ h → board_after (unspanned h) states (totals_after states h totals) left ≡ board_of T totals sender m buffer
+  module _ (sixty-four : length totals ≡ 64) (r : Result Handled Refusal) (states left : List ℕ) (e : handling (told r) states left ≡ handled_of T sender m buffer) where
+    handled-kept : {h : Answer Handled} → told r ≡ h → board_after (unspanned h) states (totals_after states h totals) left ≡ board_of T totals sender m buffer
     unfolding board_of handled_of
     handled-kept {h} q =
-        ap (λ (x : Handling). board_after (unspanned x.answer) x.states (totals_after x.states x.answer totals) x.buffer) (ap (λ (x : Answer Deed). handling x states left) (sym q) ∙ e)
+        ap (λ (x : Handling). board_after (unspanned x.answer) x.states (totals_after x.states x.answer totals) x.buffer) (ap (λ (x : Answer Handled). handling x states left) (sym q) ∙ e)
         ∙ ap (λ (x : Answer ℕ). board_after x (act_of T sender m buffer).states (totals_after (act_of T sender m buffer).states (with_circuits (ask_of m) (act_of T sender m buffer).answer) totals) (act_of T sender m buffer).buffer) (forget T sender m buffer (ask_of m) (act_of T sender m buffer).answer)
         ∙ kept-so T.states totals buffer (with_circuits (ask_of m)) (act_of T sender m buffer) sixty-four
 
-    pub board-refused : (n at : ℕ) → r ≡ Withheld n at → board_after (refused n at) states totals left ≡ board_of T totals sender m buffer
-    board-refused n at q = handled-kept (ap handled_told q)
+    pub board-refused : (why : Refusal) → r ≡ Err why → board_after (refused (refusal_number why) (refusal_place why)) states totals left ≡ board_of T totals sender m buffer
+    board-refused why q = handled-kept (ap told q)
 
-    pub board-done : (n first last : ℕ) (totals' : List ℕ) → r ≡ Done n first last → totals' ≡ recounted states first last totals → board_after (accepted n) states totals' left ≡ board_of T totals sender m buffer
-    board-done n first last totals' q t = ap (λ (l : List ℕ). board_after (accepted n) states l left) t ∙ handled-kept (ap handled_told q)
+    pub board-done : (d : Handled) (totals' : List ℕ) → r ≡ Ok d → totals' ≡ recounted states d.first d.last totals → board_after (accepted d.count) states totals' left ≡ board_of T totals sender m buffer
+    board-done d totals' q t = ap (λ (l : List ℕ). board_after (accepted d.count) states l left) t ∙ handled-kept (ap told q)
 
 -- ---- a desk call
 module _ (states totals : List ℕ) (circuit : ℕ) (set : Bool) (buffer : List ℕ) where
@@ -275,27 +274,27 @@ module _ (states totals : List ℕ) (circuit : ℕ) (set : Bool) (buffer : List 
   unfolding desk_board_of
   desk-board-short n = kept-short states totals buffer (alone circuit) (desk_of states circuit set buffer) n
 
-  module _ (sixty-four : length totals ≡ 64) (r : Written) (rows left : List ℕ) (e : after (written_told r) rows left ≡ desk_of states circuit set buffer) where
-    desk-kept : {x : Answer ℕ} → written_told r ≡ x → board_after x rows (totals_after rows (alone circuit x) totals) left ≡ desk_board_of states totals circuit set buffer
+  module _ (sixty-four : length totals ≡ 64) (r : Result ℕ Refusal) (rows left : List ℕ) (e : after (told r) rows left ≡ desk_of states circuit set buffer) where
+    desk-kept : {x : Answer ℕ} → told r ≡ x → board_after x rows (totals_after rows (alone circuit x) totals) left ≡ desk_board_of states totals circuit set buffer
     unfolding desk_board_of
     desk-kept {x} q =
         ap (λ (y : After). board_after y.answer y.states (totals_after y.states (alone circuit y.answer) totals) y.buffer) (ap (λ (y : Answer ℕ). after y rows left) (sym q) ∙ e)
         ∙ kept-so states totals buffer (alone circuit) (desk_of states circuit set buffer) sixty-four
 
-    pub desk-board-refused : (n at : ℕ) → r ≡ Refused n at → board_after (refused n at) rows totals left ≡ desk_board_of states totals circuit set buffer
-    desk-board-refused n at q = desk-kept (ap written_told q)
+    pub desk-board-refused : (why : Refusal) → r ≡ Err why → board_after (refused (refusal_number why) (refusal_place why)) rows totals left ≡ desk_board_of states totals circuit set buffer
+    desk-board-refused why q = desk-kept (ap told q)
 
-    pub desk-board-done : (n : ℕ) (totals' : List ℕ) → r ≡ Octets n → totals' ≡ recounted rows circuit circuit totals → board_after (accepted n) rows totals' left ≡ desk_board_of states totals circuit set buffer
-    desk-board-done n totals' q t = ap (λ (l : List ℕ). board_after (accepted n) rows l left) t ∙ desk-kept (ap written_told q)
+    pub desk-board-done : (n : ℕ) (totals' : List ℕ) → r ≡ Ok n → totals' ≡ recounted rows circuit circuit totals → board_after (accepted n) rows totals' left ≡ desk_board_of states totals circuit set buffer
+    desk-board-done n totals' q t = ap (λ (l : List ℕ). board_after (accepted n) rows l left) t ∙ desk-kept (ap told q)
 
 -- ---- any two answers that a contract allows are equal, with the states, the totals and the answer buffer afterwards
-pub board-determined : {x : BoardAfter} (r s : Written) (states₁ states₂ totals₁ totals₂ buffer₁ buffer₂ : List ℕ)
-    → board_after (written_told r) states₁ totals₁ buffer₁ ≡ x
-    → board_after (written_told s) states₂ totals₂ buffer₂ ≡ x
+pub board-determined : {x : BoardAfter} (r s : Result ℕ Refusal) (states₁ states₂ totals₁ totals₂ buffer₁ buffer₂ : List ℕ)
+    → board_after (told r) states₁ totals₁ buffer₁ ≡ x
+    → board_after (told s) states₂ totals₂ buffer₂ ≡ x
     → (r ≡ s) × (states₁ ≡ states₂) × (totals₁ ≡ totals₂) × (buffer₁ ≡ buffer₂)
 board-determined r s states₁ states₂ totals₁ totals₂ buffer₁ buffer₂ p q =
     let e = p ∙ sym q in (
-      written-told-injective r s (ap (λ (x : BoardAfter). x.answer) e),
+      told-injective r s (ap (λ (x : BoardAfter). x.answer) e),
       ap (λ (x : BoardAfter). x.states) e,
       ap (λ (x : BoardAfter). x.totals) e,
       ap (λ (x : BoardAfter). x.buffer) e,

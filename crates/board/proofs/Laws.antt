@@ -11,6 +11,7 @@ use borrow.Author.Tests.{le-ltb}
 use lib.Dec.{eqb}
 use lib.ListN.{length}
 use lib.Seq.{ext_get_or}
+use Rattle.std.specs.Prelude.{is_some}
 use Rattle.octets.specs.Octet.{octet}
 use Rattle.octets.specs.Choice.{when◌then◌else◌}
 use Rattle.octets.specs.Answer.{Answer, accepted, refused, ◌then◌}
@@ -40,14 +41,15 @@ use Rattle.asks.proofs.Types.{for-type}
 use Rattle.asks.proofs.Reading.{asked_is, ask-read, ask-last}
 use Rattle.replies.specs.Replies.{reply_length}
 use Rattle.rights.specs.Tables.{Tables, tables}
-use Rattle.rights.specs.Rights.{may_help, first_foreign_lem, first_unowned_lem, first_illegal_lem, is_found}
+use Rattle.rights.specs.Rights.{may_help, first_foreign_lem, first_unowned_lem, first_illegal_lem}
 use Rattle.hub.specs.Rows.{effect, rows_after}
 use Rattle.hub.specs.Replies.{reply_of}
 use Rattle.rights.specs.Permits.{is_taken, is_unhelpable, permitted_of}
 use Rattle.hub.specs.Acts.{allowed_of, grant_of, carried_out, act_of}
 use Rattle.rights.specs.Names.{Named}
 use Rattle.hub.specs.Desk.{desk_of}
-use Rattle.hub.specs.Deeds.{Deed, with_circuits}
+use Rattle.hub.specs.Deeds.{with_circuits}
+use Rattle.hub.specs.declared.Handled.{Handled}
 use Rattle.rights.proofs.Meaning.{none_found, found_none}
 use Rattle.hub.proofs.Writing.{length-reply}
 use Rattle.hub.proofs.Given.{Allowed, granted, grant-sized}
@@ -81,8 +83,8 @@ marks-of-33 m x f k many =
 
 -- ---- what is granted, from what is looked at
 pub grant-so : (T : Tables) (sender : ℕ) (m : List ℕ) (room : ℕ) (a : Ask) → length T.states ≡ 4096 → length T.owners ≡ 4096 → length T.helpers ≡ 4096 → ask_of m ≡ accepted a
-    → is_found (first_foreign_lem T.owners T.helpers sender a.circuit (a.range + 1)) ≡ false → is_unhelpable T sender a ≡ false
-    → is_found (first_illegal_lem T.states a.circuit (a.range + 1)) ≡ false → is_taken T.states a.act a.circuit ≡ false → length (reply_of T.states m a) ≤ room
+    → is_some (first_foreign_lem T.owners T.helpers sender a.circuit (a.range + 1)) ≡ false → is_unhelpable T sender a ≡ false
+    → is_some (first_illegal_lem T.states a.circuit (a.range + 1)) ≡ false → is_taken T.states a.act a.circuit ≡ false → length (reply_of T.states m a) ≤ room
     → grant_of T sender m room ≡ accepted a
 unfolding allowed_of permitted_of
 grant-so T sender m room a p q w e f u l t r =
@@ -97,7 +99,7 @@ unfolding board_of act_of
 board-granted T totals sender m b a n q g =
     sym (kept-so T.states totals b (with_circuits (ask_of m)) (carried_out T m b (grant_of T sender m (length b))) n)
     ∙ ap (λ (x : Answer Ask). board_after (carried_out T m b x).answer (carried_out T m b x).states (totals_after (carried_out T m b x).states (with_circuits (ask_of m) (carried_out T m b x).answer) totals) (carried_out T m b x).buffer) g
-    ∙ ap (λ (x : Answer Deed). board_after (accepted (length (reply_of T.states m a))) (rows_after m a T.states) (totals_after (rows_after m a T.states) x totals) (filled (reply_of T.states m a) b)) (spanned-is m a (length (reply_of T.states m a)) q)
+    ∙ ap (λ (x : Answer Handled). board_after (accepted (length (reply_of T.states m a))) (rows_after m a T.states) (totals_after (rows_after m a T.states) x totals) (filled (reply_of T.states m a) b)) (spanned-is m a (length (reply_of T.states m a)) q)
 
 -- two lists of rows that agree everywhere
 rows_same : (l k : List ℕ) → length l ≡ length k → ((i : ℕ) → octet l i ≡ octet k i) → l ≡ k
@@ -128,7 +130,7 @@ reset-free rows act c e = ap (λ (x : Act). is_taken rows x c) e
 -- 22 looks at the act, its kind and the named circuits alone
 helps-alike : (T : Tables) (sender : ℕ) (a c : Ask) → a.act ≡ c.act → a.block ≡ c.block → a.circuit ≡ c.circuit → a.range ≡ c.range → is_unhelpable T sender a ≡ is_unhelpable T sender c
 unfolding is_unhelpable
-helps-alike T sender a c g k f r i = when may_help (g i) (k i) then false else is_found (first_unowned_lem T.owners sender (f i) (r i + 1))
+helps-alike T sender a c g k f r i = when may_help (g i) (k i) then false else is_some (first_unowned_lem T.owners sender (f i) (r i + 1))
 
 -- and at no row
 helps-any : (l k owners helpers : List ℕ) (sender : ℕ) (a : Ask) → is_unhelpable (tables l owners helpers) sender a ≡ false → is_unhelpable (tables k owners helpers) sender a ≡ false
@@ -170,13 +172,13 @@ reset-row m a c row row' g z l =
 module _ (owners helpers : List ℕ) where
   -- the rows of circuits that were legal are legal after a message, so 20 is
   -- not there where it was not
-  legal-after : (s : Standings) (sender : ℕ) (m b : List ℕ) (circuit n : ℕ) → is_found (first_illegal_lem s.rows circuit n) ≡ false → is_found (first_illegal_lem (act_of (at owners helpers s) sender m b).states circuit n) ≡ false
+  legal-after : (s : Standings) (sender : ℕ) (m b : List ℕ) (circuit n : ℕ) → is_some (first_illegal_lem s.rows circuit n) ≡ false → is_some (first_illegal_lem (act_of (at owners helpers s) sender m b).states circuit n) ≡ false
   legal-after s sender m b circuit n e =
       none_found (λ c. is_legal (octet (act_of (at owners helpers s) sender m b).states c)) circuit n
       (λ j p q. is-legal _ (legal-stays (at owners helpers s) sender m b j (legal-is _ (found_none (λ c. is_legal (octet s.rows c)) circuit n e j p q))))
 
   -- and a row that is legal afterwards was so before
-  legal-before : (s : Standings) (sender : ℕ) (m b : List ℕ) (circuit n : ℕ) → is_found (first_illegal_lem (act_of (at owners helpers s) sender m b).states circuit n) ≡ false → is_found (first_illegal_lem s.rows circuit n) ≡ false
+  legal-before : (s : Standings) (sender : ℕ) (m b : List ℕ) (circuit n : ℕ) → is_some (first_illegal_lem (act_of (at owners helpers s) sender m b).states circuit n) ≡ false → is_some (first_illegal_lem s.rows circuit n) ≡ false
   legal-before s sender m b circuit n e =
       none_found (λ c. is_legal (octet s.rows c)) circuit n
       (λ j p q.
@@ -234,9 +236,9 @@ module _ (owners helpers : List ℕ) where
           let size : n₁ ≡ length (reply_of s.rows m₃ a₃) = count ∙ block-length s.rows m₁ a₁ g₁ ∙ ap (λ (r : ℕ). reply_length BlockGroup r 0) r₁ ∙ sym (block-length s.rows m₃ a₃ g₃) in
           let grant : grant_of (at owners helpers s) p m₃ (length b₃) ≡ accepted a₃ =
           grant-so (at owners helpers s) p m₃ (length b₃) a₃ al.states-sized al.owners-sized al.helpers-sized e₃
-          (sym (λ i. is_found (first_foreign_lem owners helpers p (c₁ i) (r₁ i + 1))) ∙ al.right)
+          (sym (λ i. is_some (first_foreign_lem owners helpers p (c₁ i) (r₁ i + 1))) ∙ al.right)
           (sym (helps-alike (at owners helpers s) p a₁ a₃ (g₁ ∙ sym g₃) k₁ c₁ r₁) ∙ al.helps)
-          (sym (λ i. is_found (first_illegal_lem s.rows (c₁ i) (r₁ i + 1))) ∙ al.legal)
+          (sym (λ i. is_some (first_illegal_lem s.rows (c₁ i) (r₁ i + 1))) ∙ al.legal)
           (block-free s.rows a₃.act a₃.circuit g₃)
           (omega (arith, size, room)) in
           let whole = board-granted (at owners helpers s) s.totals p m₃ b₃ a₃ sixty e₃ grant in
@@ -280,7 +282,7 @@ module _ (owners helpers : List ℕ) where
           let many : length (heard_by owners helpers s p m b).totals ≡ 64 = ap length t ∙ length-recounted (heard_by owners helpers s p m b).states a.circuit (a.circuit + a.range) s.totals ∙ sixty in
           let grant : grant_of (at owners helpers (left_in (heard_by owners helpers s p m b))) p m (length b') ≡ accepted a =
           grant-so (at owners helpers (left_in (heard_by owners helpers s p m b))) p m (length b') a long al.owners-sized al.helpers-sized e al.right (helps-any s.rows (heard_by owners helpers s p m b).states owners helpers p a al.helps)
-          (ap (λ (l : List ℕ). is_found (first_illegal_lem l a.circuit (a.range + 1))) same ∙ legal-after s p m b a.circuit (a.range + 1) al.legal)
+          (ap (λ (l : List ℕ). is_some (first_illegal_lem l a.circuit (a.range + 1))) same ∙ legal-after s p m b a.circuit (a.range + 1) al.legal)
           (block-free (heard_by owners helpers s p m b).states a.act a.circuit g)
           (omega (arith, size, room)) in
           let whole = board-granted (at owners helpers (left_in (heard_by owners helpers s p m b))) (heard_by owners helpers s p m b).totals p m b' a many e grant in
@@ -331,7 +333,7 @@ module _ (owners helpers : List ℕ) where
     granted-after room e =
         let al = granted (at owners helpers s) p g room y e in
         grant-so (at owners helpers left) p g room y (long ∙ al.states-sized) al.owners-sized al.helpers-sized reset al.right (helps-any s.rows (heard_by owners helpers s p m b).states owners helpers p y al.helps)
-        (ap (λ (l : List ℕ). is_found (first_illegal_lem l y.circuit (y.range + 1))) same ∙ legal-after s p m b y.circuit (y.range + 1) al.legal)
+        (ap (λ (l : List ℕ). is_some (first_illegal_lem l y.circuit (y.range + 1))) same ∙ legal-after s p m b y.circuit (y.range + 1) al.legal)
         (reset-free (heard_by owners helpers s p m b).states y.act y.circuit grs)
         (omega (arith, al.fits, reset-length (heard_by owners helpers s p m b).states g y grs, reset-length s.rows g y grs))
 
@@ -339,7 +341,7 @@ module _ (owners helpers : List ℕ) where
     granted-alone room e =
         let al = granted (at owners helpers left) p g room y e in
         grant-so (at owners helpers s) p g room y (sym long ∙ al.states-sized) al.owners-sized al.helpers-sized reset al.right (helps-any (heard_by owners helpers s p m b).states s.rows owners helpers p y al.helps)
-        (legal-before s p m b y.circuit (y.range + 1) (sym (ap (λ (l : List ℕ). is_found (first_illegal_lem l y.circuit (y.range + 1))) same) ∙ al.legal))
+        (legal-before s p m b y.circuit (y.range + 1) (sym (ap (λ (l : List ℕ). is_some (first_illegal_lem l y.circuit (y.range + 1))) same) ∙ al.legal))
         (reset-free s.rows y.act y.circuit grs)
         (omega (arith, al.fits, reset-length (heard_by owners helpers s p m b).states g y grs, reset-length s.rows g y grs))
 

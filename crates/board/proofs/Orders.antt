@@ -25,8 +25,9 @@ use Rattle.arrival.proofs.Isolation.{merges-size-alike, state-so-far, answer-so-
 use Rattle.arrival.proofs.Settled.{settled, merges-total-alike}
 use Rattle.rights.specs.Tables.{Tables, tables}
 use Rattle.hub.specs.Acts.{act_of}
-use Rattle.hub.specs.Deeds.{Deed, deed, with_circuits}
+use Rattle.hub.specs.Deeds.{deed, with_circuits}
 use Rattle.hub.specs.Arrival.{Event, heard, ours, Call, party_of, done_by, holds_of, hub}
+use Rattle.hub.specs.declared.Handled.{Handled}
 use Rattle.hub.proofs.Called.{call-accepted, act-keeps, untouched}
 use Rattle.hub.proofs.Desk.{desk-called, desk-keeps, desk-untouched}
 use Rattle.hub.proofs.Orders.{done-length, done-alike, keeps-others, no-helpers}
@@ -131,25 +132,25 @@ board-apart owners helpers = record {
 
 -- ---- the totals: which calls set one
 -- block k holds a circuit that is named, by the call and its answer
-abbrev pub sets_block : Answer Deed → ℕ → Bool
+abbrev pub sets_block : Answer Handled → ℕ → Bool
 sets_block (accepted d) k = when ltb k (d.first / 64) then false else (when ltb (d.last / 64) k then false else true)
 sets_block (refused n at) k = false
 
 -- what an accepted call names lies in the table, and its rows alone change
 pub record Reached (a : Event) (owners helpers buffer states : List ℕ) : Type 0 where
-  pub within : (n : ℕ) (d : Deed) → (done_by owners helpers a buffer states).answer ≡ accepted n → named_by a (accepted n) ≡ accepted d → d.last ≤ 4095
-  pub outside : (n : ℕ) (d : Deed) → (done_by owners helpers a buffer states).answer ≡ accepted n → named_by a (accepted n) ≡ accepted d → (i : ℕ) → (i < d.first) ⊎ (d.last < i) → octet (done_by owners helpers a buffer states).states i ≡ octet states i
+  pub within : (n : ℕ) (d : Handled) → (done_by owners helpers a buffer states).answer ≡ accepted n → named_by a (accepted n) ≡ accepted d → d.last ≤ 4095
+  pub outside : (n : ℕ) (d : Handled) → (done_by owners helpers a buffer states).answer ≡ accepted n → named_by a (accepted n) ≡ accepted d → (i : ℕ) → (i < d.first) ⊎ (d.last < i) → octet (done_by owners helpers a buffer states).states i ≡ octet states i
   pub kept : (n at : ℕ) → (done_by owners helpers a buffer states).answer ≡ refused n at → (done_by owners helpers a buffer states).states ≡ states
 
 pub reached : (owners helpers : List ℕ) (a : Event) (buffer states : List ℕ) → Reached a owners helpers buffer states
 reached owners helpers (heard sender m) buffer states = record {
-  within = λ n d e q. omega (arith, ask-last m (asked n e) (asks n e), ap (λ (x : Deed). x.last) (is n d e q));
+  within = λ n d e q. omega (arith, ask-last m (asked n e) (asks n e), ap (λ (x : Handled). x.last) (is n d e q));
   outside = λ n d e q i o. untouched T sender m buffer i (λ w.
       let same : w.0 ≡ asked n e = accepted-same (sym w.1 ∙ asks n e) in
       let x = is n d e q in
       ⊎_elim
-      (λ l. omega (arith, l, w.2.0, ap (λ (y : Ask). y.circuit) same, ap (λ (y : Deed). y.first) x))
-      (λ l. omega (arith, l, w.2.1, ap (λ (y : Ask). y.circuit) same, ap (λ (y : Ask). y.range) same, ap (λ (y : Deed). y.last) x))
+      (λ l. omega (arith, l, w.2.0, ap (λ (y : Ask). y.circuit) same, ap (λ (y : Handled). y.first) x))
+      (λ l. omega (arith, l, w.2.1, ap (λ (y : Ask). y.circuit) same, ap (λ (y : Ask). y.range) same, ap (λ (y : Handled). y.last) x))
       o);
   kept = λ n at e. (act-keeps T sender m buffer n at e).0;
 }
@@ -163,19 +164,19 @@ reached owners helpers (heard sender m) buffer states = record {
     asks : (n : ℕ) (e : (act_of (tables states owners helpers) sender m buffer).answer ≡ accepted n) → ask_of m ≡ accepted (call-accepted (tables states owners helpers) sender m buffer n e).ask
     asks n e = (call-accepted (tables states owners helpers) sender m buffer n e).allowed.asks
 
-    is : (n : ℕ) (d : Deed) (e : (act_of (tables states owners helpers) sender m buffer).answer ≡ accepted n) → with_circuits (ask_of m) (accepted n) ≡ accepted d
+    is : (n : ℕ) (d : Handled) (e : (act_of (tables states owners helpers) sender m buffer).answer ≡ accepted n) → with_circuits (ask_of m) (accepted n) ≡ accepted d
         → deed n (call-accepted (tables states owners helpers) sender m buffer n e).ask.circuit ((call-accepted (tables states owners helpers) sender m buffer n e).ask.circuit + (call-accepted (tables states owners helpers) sender m buffer n e).ask.range) ≡ d
     is n d e q = accepted-same (sym (spanned-is m (call-accepted (tables states owners helpers) sender m buffer n e).ask n (call-accepted (tables states owners helpers) sender m buffer n e).allowed.asks) ∙ q)
 reached owners helpers (ours circuit set) buffer states = record {
-  within = λ n d e q. omega (arith, (desk-called states circuit set buffer n e).granted.known, ap (λ (x : Deed). x.last) (accepted-same q));
+  within = λ n d e q. omega (arith, (desk-called states circuit set buffer n e).granted.known, ap (λ (x : Handled). x.last) (accepted-same q));
   outside = λ n d e q i o. desk-untouched states circuit set buffer i (λ r h.
       let x : deed n circuit circuit ≡ d = accepted-same q in
-      ⊎_elim (λ l. omega (arith, l, r, ap (λ (y : Deed). y.first) x)) (λ l. omega (arith, l, r, ap (λ (y : Deed). y.last) x)) o);
+      ⊎_elim (λ l. omega (arith, l, r, ap (λ (y : Handled). y.first) x)) (λ l. omega (arith, l, r, ap (λ (y : Handled). y.last) x)) o);
   kept = λ n at e. (desk-keeps states circuit set buffer n at e).0;
 }
 
 -- circuits are named where the call is accepted
-pub answered : (owners helpers : List ℕ) (a : Event) (buffer states : List ℕ) (d : Deed) → named_by a (done_by owners helpers a buffer states).answer ≡ accepted d
+pub answered : (owners helpers : List ℕ) (a : Event) (buffer states : List ℕ) (d : Handled) → named_by a (done_by owners helpers a buffer states).answer ≡ accepted d
     → (n : ℕ) × ((done_by owners helpers a buffer states).answer ≡ accepted n) × (named_by a (accepted n) ≡ accepted d)
 answered owners helpers a buffer states d q = go (done_by owners helpers a buffer states).answer refl q
   where
@@ -219,14 +220,14 @@ board-counts owners helpers = record {
 }
   where
     -- the blocks from that of the first circuit to that of the last
-    inside : (d : Deed) (k : ℕ) → sets_block (accepted d) k ≡ true → (d.first / 64 ≤ k) × (k ≤ d.last / 64)
+    inside : (d : Handled) (k : ℕ) → sets_block (accepted d) k ≡ true → (d.first / 64 ≤ k) × (k ≤ d.last / 64)
     inside d k e =
         ⊎_elim
         (λ w. absurd (true-false {t = false} w.1 refl))
         (λ w. ⊎_elim (λ u. absurd (true-false {t = false} u.1 refl)) (λ u. (ltb-false k (d.first / 64) w.0, ltb-false (d.last / 64) k u.0)) (chosen (ltb (d.last / 64) k) w.1))
         (chosen (ltb k (d.first / 64)) e)
 
-    beyond : (d : Deed) (k : ℕ) → sets_block (accepted d) k ≡ false → (k < d.first / 64) ⊎ (d.last / 64 < k)
+    beyond : (d : Handled) (k : ℕ) → sets_block (accepted d) k ≡ false → (k < d.first / 64) ⊎ (d.last / 64 < k)
     beyond d k e = go (ltb k (d.first / 64)) (ltb (d.last / 64) k) refl refl e
       where
         go : (s t : Bool) → ltb k (d.first / 64) ≡ s → ltb (d.last / 64) k ≡ t → (when s then false else (when t then false else true)) ≡ false → (k < d.first / 64) ⊎ (d.last / 64 < k)
@@ -248,12 +249,12 @@ board-counts owners helpers = record {
     recount a buffer s k true e h =
         go (named_by a (done_by owners helpers a buffer s.rows).answer) refl (ap (λ (x : Answer ℕ). sets_block (named_by a x) k) (sym (answer-left owners helpers a buffer s true e)) ∙ h)
       where
-        go : (x : Answer Deed) → named_by a (done_by owners helpers a buffer s.rows).answer ≡ x → sets_block x k ≡ true → octet (kept_by owners helpers a buffer s).totals k ≡ block_count_lem (kept_by owners helpers a buffer s).states k
+        go : (x : Answer Handled) → named_by a (done_by owners helpers a buffer s.rows).answer ≡ x → sets_block x k ≡ true → octet (kept_by owners helpers a buffer s).totals k ≡ block_count_lem (kept_by owners helpers a buffer s).states k
         go (accepted d) q h =
             let w = inside d k h in
             let r = reached owners helpers a buffer s.rows in
             let y = answered owners helpers a buffer s.rows d q in
-            ap (λ (l : List ℕ). octet l k) (totals-left owners helpers a buffer s true e ∙ ap (λ (x : Answer Deed). totals_after (done_by owners helpers a buffer s.rows).states x s.totals) q)
+            ap (λ (l : List ℕ). octet l k) (totals-left owners helpers a buffer s true e ∙ ap (λ (x : Answer Handled). totals_after (done_by owners helpers a buffer s.rows).states x s.totals) q)
             ∙ recounted-right (done_by owners helpers a buffer s.rows).states d.first d.last s.totals k w.0 w.1 (omega (arith, w.1, r.within y.0 d y.1 y.2, eqb-true (length s.totals) 64 e))
             ∙ ap (λ (l : List ℕ). block_count_lem l k) (sym (rows_left owners helpers a buffer s true e))
         go (refused n at) q h = absurd (true-false {t = false} h refl)
@@ -264,19 +265,19 @@ board-counts owners helpers = record {
     leave a buffer s k true e h =
         go (named_by a (done_by owners helpers a buffer s.rows).answer) refl (ap (λ (x : Answer ℕ). sets_block (named_by a x) k) (sym (answer-left owners helpers a buffer s true e)) ∙ h)
       where
-        go : (x : Answer Deed) → named_by a (done_by owners helpers a buffer s.rows).answer ≡ x → sets_block x k ≡ false → (octet (kept_by owners helpers a buffer s).totals k ≡ octet s.totals k) × (block_count_lem (kept_by owners helpers a buffer s).states k ≡ block_count_lem s.rows k)
+        go : (x : Answer Handled) → named_by a (done_by owners helpers a buffer s.rows).answer ≡ x → sets_block x k ≡ false → (octet (kept_by owners helpers a buffer s).totals k ≡ octet s.totals k) × (block_count_lem (kept_by owners helpers a buffer s).states k ≡ block_count_lem s.rows k)
         go (accepted d) q h =
             let o = beyond d k h in
             let r = reached owners helpers a buffer s.rows in
             let y = answered owners helpers a buffer s.rows d q in (
-              ap (λ (l : List ℕ). octet l k) (totals-left owners helpers a buffer s true e ∙ ap (λ (x : Answer Deed). totals_after (done_by owners helpers a buffer s.rows).states x s.totals) q)
+              ap (λ (l : List ℕ). octet l k) (totals-left owners helpers a buffer s true e ∙ ap (λ (x : Answer Handled). totals_after (done_by owners helpers a buffer s.rows).states x s.totals) q)
                   ∙ recounted-stays (done_by owners helpers a buffer s.rows).states d.first d.last s.totals k o,
               ap (λ (l : List ℕ). block_count_lem l k) (rows_left owners helpers a buffer s true e)
                   ∙ block_same s.rows (done_by owners helpers a buffer s.rows).states k (λ i p. r.outside y.0 d y.1 y.2 i (⊎_elim (λ l. inl (omega (arith, l, p))) (λ l. inr (omega (arith, l, p))) o)),
             )
         go (refused n at) q h =
             let y = refusing owners helpers a buffer s.rows n at q in (
-              ap (λ (l : List ℕ). octet l k) (totals-left owners helpers a buffer s true e ∙ ap (λ (x : Answer Deed). totals_after (done_by owners helpers a buffer s.rows).states x s.totals) q),
+              ap (λ (l : List ℕ). octet l k) (totals-left owners helpers a buffer s true e ∙ ap (λ (x : Answer Handled). totals_after (done_by owners helpers a buffer s.rows).states x s.totals) q),
               ap (λ (l : List ℕ). block_count_lem l k) (rows_left owners helpers a buffer s true e ∙ (reached owners helpers a buffer s.rows).kept n at y),
             )
 

@@ -27,7 +27,8 @@ use Rattle.hub.specs.Arrival.{Event, heard, ours, Call, done_by}
 use Rattle.hub.proofs.Called.{act-keeps, untouched}
 use Rattle.hub.proofs.Local.{local-answer, local-buffer, local-rows}
 use Rattle.hub.proofs.Desk.{desk-keeps, desk-16, desk-alike, desk-rows-alike, desk-untouched}
-use Rattle.hub.specs.Deeds.{Deed, with_circuits}
+use Rattle.hub.specs.Deeds.{with_circuits}
+use Rattle.hub.specs.declared.Handled.{Handled}
 use Rattle.board.specs.Board.{totals_after}
 use Rattle.board.specs.Arrival.{Standings, named_by, kept_by, replied_by, left_in, board}
 use Rattle.board.specs.Faults.{WrongTotals}
@@ -196,7 +197,7 @@ module _ (owners helpers : List ℕ) where
           let r = sixteen n a in
           λ i. record {
             rows = (rows_left owners helpers a buffer s true e ∙ short n a r) i;
-            totals = (totals-left owners helpers a buffer s true e ∙ ap (λ (x : Answer Deed). totals_after (done_by owners helpers a buffer s.rows).states x s.totals) (ap (named_by a) r ∙ none a)) i;
+            totals = (totals-left owners helpers a buffer s true e ∙ ap (λ (x : Answer Handled). totals_after (done_by owners helpers a buffer s.rows).states x s.totals) (ap (named_by a) r ∙ none a)) i;
           }
 
   -- a call that is named by the test is named by the statement

@@ -6,8 +6,9 @@ use Rattle.octets.specs.Answer.{Answer}
 use Rattle.asks.specs.Asks.{ask_of}
 use Rattle.arrival.specs.Calls.{Calls}
 use Rattle.rights.specs.Tables.{tables}
-use Rattle.hub.specs.Deeds.{Deed, with_circuits}
+use Rattle.hub.specs.Deeds.{with_circuits}
 use Rattle.hub.specs.Arrival.{Event, heard, ours, Call, party_of, Reply, holds_of}
+use Rattle.hub.specs.declared.Handled.{Handled}
 use Rattle.board.specs.Board.{BoardAfter, alone, board_of, desk_board_of}
 
 -- the rows and the totals
@@ -16,7 +17,7 @@ pub record Standings : Type 0 where
   pub totals : List ℕ
 
 -- the circuits that a call names, with its answer
-abbrev pub named_by : Event → Answer ℕ → Answer Deed
+abbrev pub named_by : Event → Answer ℕ → Answer Handled
 named_by (heard sender message) = with_circuits (ask_of message)
 named_by (ours circuit set) = alone circuit
 

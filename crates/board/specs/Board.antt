@@ -7,7 +7,8 @@ use Rattle.asks.specs.Asks.{ask_of}
 use Rattle.rights.specs.Tables.{Tables}
 use Rattle.hub.specs.Acts.{After, act_of}
 use Rattle.hub.specs.Desk.{desk_of}
-use Rattle.hub.specs.Deeds.{Deed, deed, with_circuits}
+use Rattle.hub.specs.Deeds.{deed, with_circuits}
+use Rattle.hub.specs.declared.Handled.{Handled}
 
 -- the answer, and what the states, the totals and the answer buffer hold afterwards
 pub record BoardAfter : Type 0 where
@@ -23,12 +24,12 @@ board_after answer states totals buffer =
 
 -- R56. the totals after a call, by the rows as they are then: where it is accepted each block that
 -- holds a named circuit is counted anew, and every other total stays
-abbrev pub totals_after : List ℕ → Answer Deed → List ℕ → List ℕ
+abbrev pub totals_after : List ℕ → Answer Handled → List ℕ → List ℕ
 totals_after rows (accepted d) totals = recounted rows d.first d.last totals
 totals_after rows (refused n at) totals = totals
 
 -- a call that is done on the rows, with the totals kept; 16 where there are not 64 of them
-abbrev pub keeping : List ℕ → List ℕ → List ℕ → (Answer ℕ → Answer Deed) → After → BoardAfter
+abbrev pub keeping : List ℕ → List ℕ → List ℕ → (Answer ℕ → Answer Handled) → After → BoardAfter
 keeping states totals buffer named r =
     when eqb (length totals) 64 then board_after r.answer r.states (totals_after r.states (named r.answer) totals) r.buffer
     else board_after (refused 16 0) states totals buffer
@@ -39,7 +40,7 @@ board_of T totals sender m buffer =
     keeping T.states totals buffer (with_circuits (ask_of m)) (act_of T sender m buffer)
 
 -- a desk call names its circuit
-abbrev pub alone : ℕ → Answer ℕ → Answer Deed
+abbrev pub alone : ℕ → Answer ℕ → Answer Handled
 alone circuit (accepted n) = accepted (deed n circuit circuit)
 alone circuit (refused n at) = refused n at
 

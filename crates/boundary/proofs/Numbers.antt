@@ -2,11 +2,11 @@
 use Prim.Native.Nat.{ℕ, ◌≤◌}
 use mathlib.Core.List.{List}
 use native.Mathlib.Omega.{arith}
+use Rattle.std.specs.Prelude.{Option, Some, None}
 use Rattle.octets.specs.Faults.{Fault}
 use Rattle.octets.proofs.Places.{Each}
-use Rattle.layout.specs.declared.Row.{Row}
-use Rattle.layout.specs.declared.Row.TheVariants.{Has, Unknown}
 use Rattle.layout.specs.Faults.{row_faults, message_faults}
+use Rattle.layout.specs.declared.Shape.{Shape}
 use Rattle.family.specs.Faults.{shape_faults}
 use Rattle.writing.specs.Write.{Order}
 
@@ -18,15 +18,15 @@ abbrev pub FromOne : List Fault → Type 0
 FromOne fs = Each AtLeastOne fs
 
 -- the reader's
-row-from-one : (m : List ℕ) (w : ℕ) (r : Row) → FromOne (row_faults m w r)
-row-from-one m w Unknown = tt
-row-from-one m w (Has s) =
+row-from-one : (m : List ℕ) (w : ℕ) (r : Option Shape) → FromOne (row_faults m w r)
+row-from-one m w None = tt
+row-from-one m w (Some s) =
     (λ _ _. omega arith, (λ _ _. omega arith, (λ _ _. omega arith, (λ _ _. omega arith, (λ _ _. omega arith, (λ _ _. omega arith, (λ _ _. omega arith, (λ _ _. omega arith, (λ _ _. omega arith, (λ _ _. omega arith, (λ _ _. omega arith, (λ _ _. omega arith, (λ _ _. omega arith, (λ _ _. omega arith, (λ _ _. omega arith, tt)))))))))))))))
 
-pub message-from-one : (m : List ℕ) (w most : ℕ) (r : Row) → FromOne (message_faults m w most r)
+pub message-from-one : (m : List ℕ) (w most : ℕ) (r : Option Shape) → FromOne (message_faults m w most r)
 message-from-one m w most r = (λ _ _. omega arith, (λ _ _. omega arith, (λ _ _. omega arith, row-from-one m w r)))
 
 -- the writer's
-pub shape-from-one : (r : Row) (most : ℕ) (o : Order) → FromOne (shape_faults r most o)
-shape-from-one (Has s) most o = (λ _ _. omega arith, (λ _ _. omega arith, (λ _ _. omega arith, (λ _ _. omega arith, tt))))
-shape-from-one Unknown most o = tt
+pub shape-from-one : (r : Option Shape) (most : ℕ) (o : Order) → FromOne (shape_faults r most o)
+shape-from-one (Some s) most o = (λ _ _. omega arith, (λ _ _. omega arith, (λ _ _. omega arith, (λ _ _. omega arith, tt))))
+shape-from-one None most o = tt

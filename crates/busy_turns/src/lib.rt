@@ -9,9 +9,9 @@ ghost use Rattle.requests.specs.Along.{said_in};
 ghost use Rattle.busy_lines.specs.Busy.{count_line, busy_line, rebuilt, busy_done, busy_left, busy_left_by};
 
 use forms::{BUSY, TOTAL, TOTALS};
-use octets::Written;
+use octets::Numbered;
 use requests::Request;
-use totals::{Asked, Count};
+use totals::Count;
 
 // Puts a count with how many totals and rows were looked at for it, and answers the next place.
 fn say_count(count: Count, out: &mut [u8]) -> usize
@@ -24,14 +24,15 @@ fn say_count(count: Count, out: &mut [u8]) -> usize
 
 // Asks how many of the circuits from the first to the last are busy, puts the count or the refusal,
 // and answers the next place.
+#[tactic(auto, unfolding(busy_lines::specs::Busy::busy_line))]
 fn say_busy(states: &[u8], totals: &[u8], first: u32, last: u32, out: &mut [u8]) -> usize
     ensures { sheet out.new result ≡
         pour (sheet out.old 0)
         (busy_line (busy_between_lem states.now totals.now first last)) }
 {
     match blocks::busy_between(states, totals, first, last) {
-        Asked::Busy(count) => say_count(count, out),
-        Asked::Refused(n) => sayings::say_refusal(n, out),
+        Ok(count) => say_count(count, out),
+        Err(why) => sayings::say_refusal(why.number(), out),
     }
 }
 
@@ -45,22 +46,25 @@ fn overwrite(totals: &mut [u8], block: usize, value: u8)
 }
 
 // Makes every total right, says so or puts the refusal, and answers the next place.
+#[tactic(auto, unfolding(busy_lines::specs::Busy::rebuild_line))]
 fn say_rebuilt(states: &[u8], totals: &mut [u8], out: &mut [u8]) -> usize
     ensures { busy_left totals.new (sheet out.new result) ≡
         busy_left_by (rebuilt states.now totals.old)
         (sheet out.old 0) }
 {
     match blocks::rebuild(states, totals) {
-        Written::Octets(_) => printing::put_text(b"ok", out, 0),
-        Written::Refused(n, _) => sayings::say_refusal(n, out),
+        Ok(_) => printing::put_text(b"ok", out, 0),
+        Err(why) => sayings::say_refusal(why.number(), out),
     }
 }
 
 // Does one of the requests about how many circuits are busy, puts its line at the front of `out`,
 // and answers the next place. Its fields are numbers, so the scratch says nothing of them.
+#[tactic(auto, unfolding(busy_lines::specs::Busy::busy_done))]
 pub fn busy_turn(request: Request, states: &[u8], totals: &mut [u8], out: &mut [u8]) -> usize
     ensures { busy_left totals.new (sheet out.new result) ≡
-        busy_left_by (busy_done states.now totals.old request.which (said_in [] request.fields)) (sheet out.old 0) }
+        busy_left_by (busy_done states.now totals.old request.which (said_in [] request.fields))
+        (sheet out.old 0) }
 {
     let fields = request.fields;
     let first = fields[0];

@@ -10,7 +10,8 @@ ghost use Rattle.bicc.specs.Write.{call_write_of};
 ghost use Rattle.boundary.specs.Boundary.{given, given_by, fixed_start_lem, SmallParts};
 ghost use Rattle.calls.specs.Calls.{call_values_of, call_read_gives};
 
-use bicc::{Message, Reading};
+use bicc::Message;
+use octets::Refusal;
 use parts::Span;
 
 // How many octets a span has.
@@ -62,10 +63,10 @@ pub extern "C" fn llachurep_bicc_read(message: &[u8], parts: &mut [u32]) -> u32
         given_by (call_read_gives message.now parts.old) }
 {
     match bicc_codec::read(message) {
-        Reading::Refused(n, at) => telling::refusal(n, at),
-        Reading::Read(x) => {
+        Err(why) => telling::refused(why),
+        Ok(x) => {
             if parts.len() < 10 {
-                return telling::refusal(13, 0);
+                return telling::refused(Refusal::NoRoom);
             }
             put_call_values(x, parts);
             10

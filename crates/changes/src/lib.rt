@@ -8,24 +8,11 @@ ghost use Rattle.rows.specs.Rows.{is_legal, blocked_row, unblocked_row, changed_
 use rows::Act;
 
 // Whether a row is one that the paper has.
+#[tactic(auto, unfolding(rows::specs::Rows::is_legal))]
 pub fn legal(row: u8) -> bool
     ensures { result ≡ is_legal row }
 {
-    match row {
-        0 => true,
-        1 => true,
-        2 => true,
-        3 => true,
-        4 => true,
-        6 => true,
-        8 => true,
-        9 => true,
-        10 => true,
-        11 => true,
-        12 => true,
-        14 => true,
-        _ => false,
-    }
+    matches!(row, 0..=4 | 6 | 8..=12 | 14)
 }
 
 // A row with a block of that kind set, 0 for maintenance; a block for hardware also ends busy.
@@ -49,7 +36,7 @@ fn unblocked(block: u8, row: u8) -> u8
 }
 
 // What an act makes of a marked circuit's row. Only the acts on groups come with a kind of block; a
-// block of one circuit is for maintenance.
+// block of one circuit is for maintenance. The kind stays a number: any octet is answered for.
 pub fn changed(act: Act, block: u8, row: u8) -> u8
     ensures { result ≡ changed_row act block row }
 {

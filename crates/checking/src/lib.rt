@@ -8,10 +8,10 @@ ghost use Rattle.asks.specs.Asks.{Sound, mark_of};
 ghost use Rattle.rights.specs.Tables.{tables};
 ghost use Rattle.hub.specs.Acts.{judged_of};
 ghost use Rattle.plans.specs.Plans.{planned};
-ghost use Rattle.plans.specs.Check.{seeing, told, hearing, agree};
+ghost use Rattle.plans.specs.Check.{seeing, told_seen, hearing, agree};
 ghost use Rattle.plans.specs.Turns.{check_at};
 
-use asks::{Ask, Verdict};
+use asks::Ask;
 use rows::{Act, CIRCUITS};
 
 // Whether circuit m+n is marked.
@@ -28,34 +28,28 @@ fn marked(message: &[u8], status: usize, n: usize) -> bool
 }
 
 // Whether an act is one for a plan of that kind: CGB of that kind, and BLO too for maintenance.
+#[tactic(auto, unfolding(plans::specs::Plans::planned))]
 fn fit(kind: u32, act: Act, block: u8) -> bool
     ensures { result ≡ planned kind act block }
 {
     match act {
-        Act::Seize => false,
-        Act::Release => false,
-        Act::Reset => false,
         Act::Block => kind == 0,
-        Act::Unblock => false,
-        Act::ResetGroup => false,
         Act::BlockGroup => block as u32 == kind,
-        Act::UnblockGroup => false,
-        Act::Query => false,
+        _ => false,
     }
 }
 
 // Each marked circuit is seen from now on, and was not before.
 fn see(message: &[u8], ask: Ask, seen: &mut [u8; 4096]) -> bool
     requires { Sound message.now ask }
-    ensures { told result seen.new ≡
+    ensures { told_seen result seen.new ≡
         seeing (λ c. mark_of message.now ask.status (c - ask.circuit)) ask.circuit
         (ask.range + 1) seen.old }
 {
     let circuit = ask.circuit;
     let range = ask.range;
     let status = ask.status;
-    let mut i = 0;
-    while i <= range {
+    for i in 0..range + 1 {
         if marked(message, status, i) {
             let c = circuit + i;
             if seen[c] != 0 {
@@ -63,7 +57,6 @@ fn see(message: &[u8], ask: Ask, seen: &mut [u8; 4096]) -> bool
             }
             seen[c] = 1;
         }
-        i += 1;
     }
     true
 }
@@ -78,12 +71,12 @@ fn hear(
     message: &[u8],
     seen: &mut [u8; 4096],
 ) -> bool
-    ensures { told result seen.new ≡
+    ensures { told_seen result seen.new ≡
         hearing (judged_of (tables states.now owners.now helpers.now) sender) kind seen.old message.now }
 {
     match judging::judge(states, owners, helpers, sender, message) {
-        Verdict::Refused(_, _) => false,
-        Verdict::Granted(ask) => {
+        Err(_) => false,
+        Ok(ask) => {
             let act = ask.act;
             if !fit(kind, act, ask.block) {
                 return false;
@@ -108,14 +101,10 @@ fn agrees(ticks: &[u8], seen: &[u8; 4096]) -> bool
     requires { length ticks.now ≡ 4096 }
     ensures { result ≡ agree ticks.now seen.now 0 4096 }
 {
-    let mut i = 0;
-    while i < 4096 {
-        if seen[i] != want(ticks[i]) {
-            return false;
-        }
-        i += 1;
-    }
-    true
+    ticks
+        .iter()
+        .zip(seen)
+        .all(|(tick, mark)| *mark == want(*tick))
 }
 
 // An octet as a count.
@@ -127,7 +116,8 @@ fn wide(octet: u8) -> usize
 
 // Whether a plan is good: the hub, on the given tables, would accept every message in turn, and the
 // ticked circuits are marked once each, no others.
-// A table of wrong length, a kind other than 0 or 1, a plan cut off: no.
+// A table of wrong length, a kind other than 0 or 1, a plan cut off: no. The kind stays a number:
+// C and the desk may give any.
 pub fn check_plan(
     states: &[u8],
     owners: &[u8],
@@ -157,6 +147,7 @@ pub fn check_plan(
         return false;
     }
     let mut seen = [0u8; 4096];
+    // Goes on by the length that it read, so it counts no index.
     let mut at = 0;
     while at < plan.len() {
         let n = wide(plan[at]);

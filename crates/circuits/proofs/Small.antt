@@ -1,4 +1,5 @@
 -- Everything that goes into an answer is small enough for it.
+use Rattle.hub.specs.declared.Handled.{Handled}
 use Prim.Native.Nat.{ℕ, ◌≤◌}
 use mathlib.Core.Path.{◌≡◌}
 use mathlib.Core.Bool.{Bool, true, false}
@@ -18,7 +19,7 @@ use Rattle.replies.proofs.Writing.{reply-length}
 use Rattle.rights.specs.Tables.{Tables}
 use Rattle.hub.specs.Acts.{After, act_of}
 use Rattle.hub.specs.Desk.{desk_of, desk_faults}
-use Rattle.hub.specs.Deeds.{Deed, with_circuits}
+use Rattle.hub.specs.Deeds.{with_circuits}
 use Rattle.hub.specs.Faults.{act_faults}
 use Rattle.hub.proofs.Writing.{length-reply}
 use Rattle.hub.proofs.Called.{call-accepted}
@@ -32,7 +33,7 @@ use Rattle.boundary.proofs.Places.{Plain}
 use Rattle.circuits.proofs.Numbers.{act-from-one, desk-from-one}
 
 -- 16 is so; with the totals kept a call has no other refusal that is new
-kept-plain : (states totals buffer : List ℕ) (named : Answer ℕ → Answer Deed) (r : After) (n at : ℕ) → (r.answer ≡ refused n at → Plain n at) → (keeping states totals buffer named r).answer ≡ refused n at → Plain n at
+kept-plain : (states totals buffer : List ℕ) (named : Answer ℕ → Answer Handled) (r : After) (n at : ℕ) → (r.answer ≡ refused n at → Plain n at) → (keeping states totals buffer named r).answer ≡ refused n at → Plain n at
 kept-plain states totals buffer named r n at h e = go (eqb (length totals) 64) e
   where
     go : (t : Bool) → (when t then board_after r.answer r.states (totals_after r.states (named r.answer) totals) r.buffer else board_after (refused 16 0) states totals buffer).answer ≡ refused n at → Plain n at

@@ -14,6 +14,7 @@ ghost use Rattle.codec_lines.specs.Codec.{found_line, codec_line_lem};
 use fields::Field;
 use finding::Located;
 use forms::{COMPACT, READ, SHAPE, WRITE};
+use octets::{Numbered, Refusal};
 use requests::Request;
 
 // Writes a message by its fields, and says what was written.
@@ -64,19 +65,24 @@ fn say_compact(fields: [Field; 8], octets: &[u8], out: &mut [u8]) -> usize
 }
 
 // Says where a parameter was found, with its contents; or the refusal with the reader's octet.
-fn say_located(located: Located, message: &[u8], defaults: &[u8], out: &mut [u8]) -> usize
+fn say_located(
+    located: Result<Located, Refusal>,
+    message: &[u8],
+    defaults: &[u8],
+    out: &mut [u8],
+) -> usize
     ensures { sheet out.new result ≡
         pour (sheet out.old 0)
         (found_line message.now defaults.now (located_told located)) }
 {
     match located {
-        Located::Message(at, len) => {
+        Ok(Located::Message(at, len)) => {
             sayings::put_shown(b"message ", pieces::stretch(message, at, len), out, 0)
         }
-        Located::Defaults(at, len) => {
+        Ok(Located::Defaults(at, len)) => {
             sayings::put_shown(b"defaults ", pieces::stretch(defaults, at, len), out, 0)
         }
-        Located::Refused(n, at) => sayings::say_fault(n, at, out),
+        Err(why) => sayings::say_fault(why.number(), why.place(), out),
     }
 }
 

@@ -3,13 +3,12 @@
 #![tactic(auto)]
 
 ghost use Rattle.std.specs.Prelude.{◌≡◌};
-ghost use Rattle.octets.specs.Told.{written_told};
+ghost use Rattle.octets.specs.Told.{told};
 ghost use Rattle.rights.specs.Tables.{tables};
 ghost use Rattle.board.specs.Board.{board_after, board_of, desk_board_of};
 
 use blocks::BLOCKS;
-use hub::Handled;
-use octets::Written;
+use octets::Refusal;
 
 // A message from a sender: as the hub answers it, and the totals of the blocks that hold a named
 // circuit become the counts of their rows, whatever they were; every other total stays.
@@ -23,22 +22,18 @@ pub fn act(
     sender: u32,
     message: &[u8],
     answer: &mut [u8],
-) -> Written
-    ensures { board_after (written_told result) states.new totals.new
+) -> Result<usize, Refusal>
+    ensures { board_after (told result) states.new totals.new
         answer.new ≡
         board_of (tables states.old owners.now helpers.now)
         totals.old sender message.now answer.old }
 {
     if totals.len() != BLOCKS {
-        return Written::Refused(16, 0);
+        return Err(Refusal::WrongTables);
     }
-    match handling::handle(states, owners, helpers, sender, message, answer) {
-        Handled::Refused(n, at) => Written::Refused(n, at),
-        Handled::Done(n, first, last) => {
-            blocks::recount(states, totals, first, last);
-            Written::Octets(n)
-        }
-    }
+    let done = handling::handle(states, owners, helpers, sender, message, answer)?;
+    blocks::recount(states, totals, done.first, done.last);
+    Ok(done.count)
 }
 
 // A call of our own desk: as `desk_calls::desk_call`, and the total of the
@@ -51,20 +46,16 @@ pub fn desk_call(
     circuit: u32,
     set: bool,
     answer: &mut [u8],
-) -> Written
-    ensures { board_after (written_told result) states.new totals.new
+) -> Result<usize, Refusal>
+    ensures { board_after (told result) states.new totals.new
         answer.new ≡
         desk_board_of states.old totals.old circuit set
         answer.old }
 {
     if totals.len() != BLOCKS {
-        return Written::Refused(16, 0);
+        return Err(Refusal::WrongTables);
     }
-    match desk_calls::desk_call(states, circuit, set, answer) {
-        Written::Refused(n, at) => Written::Refused(n, at),
-        Written::Octets(n) => {
-            blocks::recount(states, totals, circuit as usize, circuit as usize);
-            Written::Octets(n)
-        }
-    }
+    let n = desk_calls::desk_call(states, circuit, set, answer)?;
+    blocks::recount(states, totals, circuit as usize, circuit as usize);
+    Ok(n)
 }

@@ -5,6 +5,7 @@ ghost use Rattle.std.specs.Prelude.{◌≡◌};
 ghost use Rattle.velocity.specs.Velocity.{course_of_lem, known_of};
 ghost use Rattle.velocity.specs.Told.{known_told};
 
+use octets::Refusal;
 use velocity::{Codes, Course, Known};
 
 // The last bearing's code.
@@ -21,21 +22,21 @@ fn course_of(bearing: u16, speed: u16) -> Course
 }
 
 // What codes stand for. Refused with 26 for a bearing above 359.
-pub fn read(codes: Codes) -> Known
+pub fn read(codes: Codes) -> Result<Known, Refusal>
     ensures { known_told result ≡ known_of codes }
 {
     match codes {
         Codes::Horizontal(b, s) => {
             if LAST_BEARING < b {
-                return Known::Refused(26);
+                return Err(Refusal::NoVelocity);
             }
-            Known::Horizontal(course_of(b, s))
+            Ok(Known::Horizontal(course_of(b, s)))
         }
         Codes::WithVertical(b, s, u, mark) => {
             if LAST_BEARING < b {
-                return Known::Refused(26);
+                return Err(Refusal::NoVelocity);
             }
-            Known::WithVertical(course_of(b, s), u as f64, mark)
+            Ok(Known::WithVertical(course_of(b, s), u as f64, mark))
         }
     }
 }

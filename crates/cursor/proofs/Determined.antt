@@ -4,9 +4,13 @@ use Prim.Native.Nat.{ℕ}
 use mathlib.Core.Path.{◌≡◌, sym, ◌∙◌, ap}
 use mathlib.Core.List.{List}
 use denote.Ref.{Bor}
+use Rattle.std.specs.Prelude.{⊤, Option, Result}
 use Rattle.octets.specs.Answer.{refused}
+use Rattle.octets.specs.Told.{told}
+use Rattle.octets.specs.declared.Refusal.{Refusal}
 use Rattle.octets.proofs.Answer.{one_answer}
-use Rattle.family.specs.declared.Offer.{Offer}
+use Rattle.octets.proofs.Told.{told-injective}
+use Rattle.runs.specs.declared.Field.{Field}
 use Rattle.family.specs.Family.{Family, read_in}
 use Rattle.family.specs.Steps.{offer_at_lem, start_in}
 use Rattle.isup.specs.Table.{isup}
@@ -19,7 +23,6 @@ use Rattle.sccp.specs.Table.{sccp}
 use Rattle.sccp.specs.Read.{sccp_read_of}
 use Rattle.sccp.proofs.Places.{parts as sccp-parts}
 use Rattle.cursor.specs.declared.Cursor.{Cursor}
-use Rattle.cursor.specs.declared.Refusal.{Refusal}
 use Rattle.cursor.specs.Start.{refusal_by, Begun, Moved}
 
 -- a cursor is its message and its place
@@ -41,20 +44,20 @@ pub past-determined : (c r t : Cursor) → Moved c r → Moved c t → r ≡ t
 past-determined c r t p q = one-cursor c.message _ r t p q
 
 -- `step` and `step_of`
-pub step-determined : (m : List ℕ) (at : ℕ) (r t : Offer) → r ≡ offer_at_lem m at → t ≡ offer_at_lem m at → r ≡ t
+pub step-determined : (m : List ℕ) (at : ℕ) (r t : Option Field) → r ≡ offer_at_lem m at → t ≡ offer_at_lem m at → r ≡ t
 step-determined m at r t = one_answer
 
 -- what the reader of any family says
-pub refusal-determined : (F : Family) (m : List ℕ) (r t : Refusal) → r ≡ refusal_by (read_in F m) → t ≡ refusal_by (read_in F m) → r ≡ t
-refusal-determined F m r t = one_answer
+pub refusal-determined : (F : Family) (m : List ℕ) (r t : Result ⊤ Refusal) → told r ≡ refusal_by (read_in F m) → told t ≡ refusal_by (read_in F m) → r ≡ t
+refusal-determined F m r t p q = told-injective r t (one_answer p q)
 
 -- the refusal beside the start is the reader's, number and octet
 module _ (m : List ℕ) (n at : ℕ) where
-  pub isup-refusal : read_of m ≡ refused n at → refusal_by (read_in isup m) ≡ record { number = n; place = at }
+  pub isup-refusal : read_of m ≡ refused n at → refusal_by (read_in isup m) ≡ refused n at
   isup-refusal e = ap refusal_by (isup-parts m n at e)
 
-  pub bicc-refusal : call_read_of m ≡ refused n at → refusal_by (read_in bicc m) ≡ record { number = n; place = at }
+  pub bicc-refusal : call_read_of m ≡ refused n at → refusal_by (read_in bicc m) ≡ refused n at
   bicc-refusal e = ap refusal_by (bicc-parts m n at e)
 
-  pub sccp-refusal : sccp_read_of m ≡ refused n at → refusal_by (read_in sccp m) ≡ record { number = n; place = at }
+  pub sccp-refusal : sccp_read_of m ≡ refused n at → refusal_by (read_in sccp m) ≡ refused n at
   sccp-refusal e = ap refusal_by (sccp-parts m n at e)

@@ -5,9 +5,10 @@ use Prim.Native.Nat.{ℕ, zero, suc}
 use mathlib.Core.Path.{◌≡◌, refl, sym, ◌∙◌, subst}
 use mathlib.Core.List.{List, [], ◌∷◌}
 use denote.Ref.{Bor}
+use Rattle.std.specs.Prelude.{Option}
 use Rattle.octets.specs.Answer.{refused}
 use Rattle.parts.specs.declared.Parts.{Parts}
-use Rattle.family.specs.declared.Offer.{Offer}
+use Rattle.runs.specs.declared.Field.{Field}
 use Rattle.family.specs.Family.{Family, read_in}
 use Rattle.family.specs.Forms.{FamilyFormed}
 use Rattle.family.specs.Steps.{offer_at_lem, place_after_lem, steps_from, start_in, GivesAll}
@@ -32,7 +33,7 @@ held : (c : ℕ → Cursor) → ((k : ℕ) → Moved (c k) (c (suc k))) → (n :
 held c gone zero = refl
 held c gone (suc n) = (gone n).0 ∙ held c gone n
 
-gives : (n : ℕ) (c : ℕ → Cursor) (g : ℕ → Offer) → ((k : ℕ) → Moved (c k) (c (suc k))) → ((k : ℕ) → g k ≡ offer_at_lem (c k).message.now (c k).at) → firsts n g ≡ steps_from n (c 0).message.now (c 0).at
+gives : (n : ℕ) (c : ℕ → Cursor) (g : ℕ → Option Field) → ((k : ℕ) → Moved (c k) (c (suc k))) → ((k : ℕ) → g k ≡ offer_at_lem (c k).message.now (c k).at) → firsts n g ≡ steps_from n (c 0).message.now (c 0).at
 unfolding steps_from
 gives zero c g gone given = refl
 gives (suc n) c g gone given =
@@ -42,7 +43,7 @@ gives (suc n) c g gone given =
 
 -- the cursors c 0, c 1, .. from the start over the lent message s, each past the one before it, and
 -- what a step of each gives
-module _ (F : Family) (s : Bor (List ℕ)) (c : ℕ → Cursor) (g : ℕ → Offer) (begun : Begun F s (c 0)) (gone : (k : ℕ) → Moved (c k) (c (suc k))) (given : (k : ℕ) → g k ≡ offer_at_lem (c k).message.now (c k).at) where
+module _ (F : Family) (s : Bor (List ℕ)) (c : ℕ → Cursor) (g : ℕ → Option Field) (begun : Begun F s (c 0)) (gone : (k : ℕ) → Moved (c k) (c (suc k))) (given : (k : ℕ) → g k ≡ offer_at_lem (c k).message.now (c k).at) where
   -- every one keeps hold of the same memory
   pub cursor-keeps : (n : ℕ) → (c n).message ≡ s
   cursor-keeps n = held c gone n ∙ begun.0
@@ -54,14 +55,14 @@ module _ (F : Family) (s : Bor (List ℕ)) (c : ℕ → Cursor) (g : ℕ → Off
 
   -- the first n answers are the declared parameters, in order, and done from there on
   pub cursor-exactly : (p : Parts) (f : FamilyFormed F s.now p) (n : ℕ) → GivesAll s.now f.params (firsts n g)
-  cursor-exactly p f n = subst (λ (gs : List Offer). GivesAll s.now f.params gs) (sym (cursor-gives n)) (steps-exactly F s.now p f n)
+  cursor-exactly p f n = subst (λ (gs : List (Option Field)). GivesAll s.now f.params gs) (sym (cursor-gives n)) (steps-exactly F s.now p f n)
 
   -- over a message that the reader refuses, every answer is done
   pub cursor-refused : (k at : ℕ) → read_in F s.now ≡ refused k at → (n : ℕ) → GivesAll s.now [] (firsts n g)
-  cursor-refused k at e n = subst (λ (gs : List Offer). GivesAll s.now [] gs) (sym (cursor-gives n)) (refused-done F s.now k at n e)
+  cursor-refused k at e n = subst (λ (gs : List (Option Field)). GivesAll s.now [] gs) (sym (cursor-gives n)) (refused-done F s.now k at n e)
 
 -- ---- of each family
-module _ (s : Bor (List ℕ)) (c : ℕ → Cursor) (g : ℕ → Offer) (gone : (k : ℕ) → Moved (c k) (c (suc k))) (given : (k : ℕ) → g k ≡ offer_at_lem (c k).message.now (c k).at) where
+module _ (s : Bor (List ℕ)) (c : ℕ → Cursor) (g : ℕ → Option Field) (gone : (k : ℕ) → Moved (c k) (c (suc k))) (given : (k : ℕ) → g k ≡ offer_at_lem (c k).message.now (c k).at) where
   pub isup-steps : Begun isup s (c 0) → (x : Isup) (f : WellFormed s.now x) (n : ℕ) → GivesAll s.now f.params (firsts n g)
   isup-steps b x f n = cursor-exactly isup s c g b gone given x.parts (isup-framed s.now x f) n
 

@@ -1,17 +1,18 @@
--- The refusal beside the start has number 0 exactly where the reader takes the message: every
--- number of a refusal is 1 at the least.
+-- There is no refusal beside the start exactly where the reader takes the message; every number of
+-- a refusal is 1 at the least.
 use Prim.Native.Nat.{ℕ, ◌≤◌}
 use mathlib.Core.Path.{◌≡◌, refl, ap}
 use mathlib.Core.List.{List}
 use mathlib.Core.Logic.{◌↔◌}
 use native.Mathlib.Omega.{arith}
+use Rattle.std.specs.Prelude.{Option, Some, None}
 use Rattle.octets.specs.Octet.{octet}
 use Rattle.octets.specs.Answer.{Answer, accepted, refused}
+use Rattle.octets.proofs.Answer.{refused-accepted}
 use Rattle.octets.proofs.Places.{Each, refusal-so}
-use Rattle.layout.specs.declared.Row.{Row}
-use Rattle.layout.specs.declared.Row.TheVariants.{Has, Unknown}
 use Rattle.parts.specs.declared.Parts.{Parts}
 use Rattle.layout.specs.Faults.{row_faults}
+use Rattle.layout.specs.declared.Shape.{Shape}
 use Rattle.family.specs.Family.{Family, read_in}
 use Rattle.family.specs.Faults.{family_faults}
 use Rattle.family.proofs.Judged.{read-judges}
@@ -21,9 +22,9 @@ use Rattle.cursor.specs.Start.{refusal_by}
 abbrev FromOne : ℕ → ℕ → Type 0
 FromOne n at = 1 ≤ n
 
-row-from-one : (m : List ℕ) (w : ℕ) (r : Row) → Each FromOne (row_faults m w r)
-row-from-one m w Unknown = tt
-row-from-one m w (Has s) =
+row-from-one : (m : List ℕ) (w : ℕ) (r : Option Shape) → Each FromOne (row_faults m w r)
+row-from-one m w None = tt
+row-from-one m w (Some s) =
     (λ _ _. omega arith, (λ _ _. omega arith, (λ _ _. omega arith, (λ _ _. omega arith, (λ _ _. omega arith, (λ _ _. omega arith, (λ _ _. omega arith, (λ _ _. omega arith, (λ _ _. omega arith, (λ _ _. omega arith, (λ _ _. omega arith, (λ _ _. omega arith, (λ _ _. omega arith, (λ _ _. omega arith, (λ _ _. omega arith, tt)))))))))))))))
 
 module _ (F : Family) (m : List ℕ) where
@@ -34,10 +35,10 @@ module _ (F : Family) (m : List ℕ) where
   pub refused-from-one : (n at : ℕ) → read_in F m ≡ refused n at → 1 ≤ n
   refused-from-one n at e = refusal-so FromOne (read_in F m) (family_faults F m) (read-judges F m) faults-from-one n at e
 
-  -- 0 exactly where the message is taken
-  pub refusal-none : ((refusal_by (read_in F m)).number ≡ 0) ↔ ((p : Parts) × (read_in F m ≡ accepted p))
-  refusal-none = (go (read_in F m) refl, λ t. ap (λ (x : Answer Parts). (refusal_by x).number) t.1)
+  -- none exactly where the message is taken
+  pub refusal-none : (refusal_by (read_in F m) ≡ accepted tt) ↔ ((p : Parts) × (read_in F m ≡ accepted p))
+  refusal-none = (go (read_in F m), λ t. ap refusal_by t.1)
     where
-      go : (x : Answer Parts) → read_in F m ≡ x → (refusal_by x).number ≡ 0 → (p : Parts) × (x ≡ accepted p)
-      go (accepted p) e z = (p, refl)
-      go (refused n at) e z = absurd (omega (arith, refused-from-one n at e, z))
+      go : (x : Answer Parts) → refusal_by x ≡ accepted tt → (p : Parts) × (x ≡ accepted p)
+      go (accepted p) z = (p, refl)
+      go (refused n at) z = absurd (refused-accepted z)

@@ -8,11 +8,3 @@ pub struct Cursor<'a> {
     pub message: &'a [u8],
     pub at: usize,
 }
-
-// What the reader says of the message at the start: 0, or the refusal's number; and the octet that
-// a refusal is about, 0 where it is about none.
-#[derive(Clone, Copy)]
-pub struct Refusal {
-    pub number: u8,
-    pub place: usize,
-}

@@ -1,33 +1,31 @@
 -- What the functions' steps come to, for their proofs.
-use Prim.Native.Nat.{ℕ, suc, ◌<◌, ◌≤◌}
+use Prim.Native.Nat.{ℕ}
 use mathlib.Core.Path.{◌≡◌, refl, sym, ◌∙◌, ap}
 use mathlib.Core.Bool.{Bool, true, false}
-use mathlib.Core.List.{List, [], ◌∷◌, ◌++◌}
+use mathlib.Core.List.{List, []}
 use native.Mathlib.Omega.{arith}
-use native.Mathlib.Numerals.{add-one}
 use borrow.Author.Tests.{eqb-true}
 use lib.Dec.{eqb}
-use lib.ListN.{length, take, set, replicate, replicate-append-replicate}
-use lib.Seq.{take-suc-set, take_all}
+use lib.ListN.{length, replicate}
+use Rattle.std.specs.Prelude.{Result, Ok, Err}
+use Rattle.octets.specs.Told.{told}
+use Rattle.octets.specs.declared.Refusal.{Refusal}
 use Rattle.octets.specs.Choice.{when◌then◌else◌}
-use Rattle.octets.specs.declared.Written.TheVariants.{Refused, Octets}
 use Rattle.rights.specs.Tables.{tables}
 use Rattle.hub.specs.Acts.{after, act_of}
 use Rattle.hub.proofs.Unhelped.{owners-help-none}
 use Rattle.book.specs.declared.Await.TheVariants.{SpanCount, Bad}
 use Rattle.day.specs.Hub.{Rows, at_first_lem, heard_as, heard_by, unhelped, heard_of}
 use Rattle.day.specs.Day.{nobody, Day, day, machine, one_more_lem, counted_if, heard_in_lem, start, zeros, sized_by, day_sized, begun_of}
-use Rattle.octets.specs.declared.Written.{Written}
-use Rattle.octets.specs.Told.{written_told}
 
 -- ---- a message
-pub heard-taken : (owners : List ℕ) (rows : Rows) (sender : ℕ) (m : List ℕ) {r : Written} {n : ℕ} {states answer : List ℕ} → after (written_told r) states answer ≡ act_of (tables rows owners owners) sender m (replicate 268 0) → r ≡ Octets n → heard_as states true ≡ heard_of owners rows sender m
+pub heard-taken : (owners : List ℕ) (rows : Rows) (sender : ℕ) (m : List ℕ) {r : Result ℕ Refusal} {n : ℕ} {states answer : List ℕ} → after (told r) states answer ≡ act_of (tables rows owners owners) sender m (replicate 268 0) → r ≡ Ok n → heard_as states true ≡ heard_of owners rows sender m
 unfolding heard_of unhelped
-heard-taken owners rows sender m {r} {n} {states} {answer} e p = (λ i. heard_by (after (written_told (sym p i)) states answer)) ∙ ap heard_by (e ∙ owners-help-none rows owners sender m (replicate 268 0))
+heard-taken owners rows sender m {r} {n} {states} {answer} e p = (λ i. heard_by (after (told (sym p i)) states answer)) ∙ ap heard_by (e ∙ owners-help-none rows owners sender m (replicate 268 0))
 
-pub heard-refused : (owners : List ℕ) (rows : Rows) (sender : ℕ) (m : List ℕ) {r : Written} {n at : ℕ} {states answer : List ℕ} → after (written_told r) states answer ≡ act_of (tables rows owners owners) sender m (replicate 268 0) → r ≡ Refused n at → heard_as states false ≡ heard_of owners rows sender m
+pub heard-refused : (owners : List ℕ) (rows : Rows) (sender : ℕ) (m : List ℕ) {r : Result ℕ Refusal} {why : Refusal} {states answer : List ℕ} → after (told r) states answer ≡ act_of (tables rows owners owners) sender m (replicate 268 0) → r ≡ Err why → heard_as states false ≡ heard_of owners rows sender m
 unfolding heard_of unhelped
-heard-refused owners rows sender m {r} {n} {states} {answer} e p = (λ i. heard_by (after (written_told (sym p i)) states answer)) ∙ ap heard_by (e ∙ owners-help-none rows owners sender m (replicate 268 0))
+heard-refused owners rows sender m {r} {why} {states} {answer} e p = (λ i. heard_by (after (told (sym p i)) states answer)) ∙ ap heard_by (e ∙ owners-help-none rows owners sender m (replicate 268 0))
 
 counted-in : (t : Day) (sender : ℕ) (m : List ℕ) {rows : Rows} {taken : Bool} → heard_as rows taken ≡ heard_of t.owners t.rows sender m → (b : Bool) → taken ≡ b → counted_if b sender (heard_as rows b) t ≡ heard_in_lem sender m t
 unfolding heard_in_lem
@@ -39,21 +37,6 @@ counted-taken t sender m {rows} e p q = (λ i. day t.owners rows (q i) t.refused
 pub counted-refused : (t : Day) (sender : ℕ) (m : List ℕ) {rows : Rows} {taken : Bool} {refused : List ℕ} → heard_as rows taken ≡ heard_of t.owners t.rows sender m → taken ≡ false → refused ≡ one_more_lem t.refused sender → day t.owners rows t.accepted refused ≡ heard_in_lem sender m t
 counted-refused t sender m {rows} e p q = (λ i. day t.owners rows t.accepted (q i)) ∙ counted-in t sender m e false p
 
--- ---- a table made 0
-pub cleared_more : (l : List ℕ) (i k : ℕ) → i < length l → k ≡ suc i → take i l ≡ replicate i 0 → take k (set l i 0) ≡ replicate k 0
-cleared_more l i k h e p =
-    ap (λ (n : ℕ). take n (set l i 0)) e
-    ∙ take-suc-set l i 0 h
-    ∙ ap (λ (x : List ℕ). x ++ (0 ∷ [])) p
-    ∙ replicate-append-replicate i 1 0
-    ∙ ap (λ (n : ℕ). replicate n 0) (add-one i ∙ sym e)
-
-pub cleared-all : (l : List ℕ) (i n : ℕ) → i ≤ length l → length l ≤ i → length l ≡ n → take i l ≡ replicate i 0 → l ≡ replicate n 0
-cleared-all l i n a b e p =
-    let q : i ≡ n = omega arith in
-    sym (take_all i l b) ∙ p ∙ ap (λ (n : ℕ). replicate n 0) q
-
--- ---- tables and a place that fit
 pub sized-true : (o s a r : ℕ) → sized_by o s a r ≡ true → (o ≡ 4096) × (s ≡ 4096) × (a ≡ 256) × (r ≡ 256)
 sized-true o s a r e = go (eqb o 4096) refl (eqb s 4096) refl (eqb a 256) refl e
   where

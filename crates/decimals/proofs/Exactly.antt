@@ -1,4 +1,5 @@
 -- What is taken for a decimal is what a person may type, and it stands for the f64 nearest to it.
+use Rattle.std.specs.Prelude.{Option, Some, None}
 use mathlib.Core.Path.{◌≡◌, refl, sym, ap, ◌∙◌, subst}
 use mathlib.Core.Bool.{false}
 use mathlib.Core.List.{List, [], ◌∷◌, ◌++◌}
@@ -12,15 +13,24 @@ use lib.ListN.{length, get_or, length-append}
 use lib.Ieee.{Float, binary64, round, neg}
 use Rattle.octets.proofs.Choice.{chosen}
 use Rattle.words.specs.Digits.{value_of}
-use Rattle.decimals.specs.declared.Real.TheVariants.{Is as Value}
-use Rattle.decimals.specs.declared.Decimal.TheVariants.{Is, Not}
 use Rattle.decimals.specs.Decimals.{part_from_lem, whole_from, nearest_to, typed_of, below_zero, real_of_lem}
 use Rattle.decimals.specs.Rules.{AllDecimal, digits_value, Typed, whole, pointed, Nearest}
 use Rattle.decimals.proofs.Steps.{ten-more, ten-15}
 use Rattle.decimals.proofs.Best.{quotient-nearest}
 
-not_is : {v d : ℕ} → Not ≡ Is v d → ⊥
-not_is e = let z : ◌≡◌ {A = ℕ} 0 1 = cc in omega arith
+not_is : {p : ℕ × ℕ} → None ≡ Some p → ⊥
+not_is e = cc
+
+-- a fraction
+abbrev over : ℕ → ℕ → Option (ℕ × ℕ)
+over v d = Some (v, d)
+
+-- the number and the scale of two fractions that are one
+number-of : (v d : ℕ) {x e : ℕ} → over v d ≡ over x e → x ≡ v
+number-of v d {x} {e} q = let both : ◌≡◌ {A = ℕ × ℕ} (v, d) (x, e) = cc in sym (ap (λ (p : ℕ × ℕ). p.0) both)
+
+scale-of : (v d : ℕ) {x e : ℕ} → over v d ≡ over x e → e ≡ d
+scale-of v d {x} {e} q = let both : ◌≡◌ {A = ℕ × ℕ} (v, d) (x, e) = cc in sym (ap (λ (p : ℕ × ℕ). p.1) both)
 
 -- a point is no digit
 not-point : (c : ℕ) → value_of c ≤ 9 → c ≡ 46 → ⊥
@@ -36,15 +46,15 @@ not-sign c h e = let k : value_of 45 ≤ 9 = subst (λ (x : ℕ). value_of x ≤
 scaled : (k d : ℕ) → 10 ^ k * (10 * d) ≡ 10 ^ suc k * d
 scaled k d = mul_left_comm (10 ^ k) 10 d ∙ sym (mul_assoc 10 (10 ^ k) d) ∙ ap (λ (x : ℕ). x * d) (sym (pow-succ' 10 k))
 
-part-is : (v n d : ℕ) (p : List ℕ) → AllDecimal p → n + length p ≤ 15 → part_from_lem v n d p ≡ Is (digits_value v p) (10 ^ length p * d)
+part-is : (v n d : ℕ) (p : List ℕ) → AllDecimal p → n + length p ≤ 15 → part_from_lem v n d p ≡ Some (digits_value v p, 10 ^ length p * d)
 unfolding part_from_lem digits_value
-part-is v n d [] a h = ap (Is v) (sym (one-mul d))
+part-is v n d [] a h = ap (over v) (sym (one-mul d))
 part-is v n d (c ∷ cs) a h =
     let l : n ≤ 14 = omega arith in
     let m : n + 1 + length cs ≤ 15 = omega arith in
-    rw (le-ltb _ _ a.0, le-ltb _ _ l) (part-is (10 * v + value_of c) (n + 1) (10 * d) cs a.1 m ∙ ap (Is (digits_value (10 * v + value_of c) cs)) (scaled (length cs) d))
+    rw (le-ltb _ _ a.0, le-ltb _ _ l) (part-is (10 * v + value_of c) (n + 1) (10 * d) cs a.1 m ∙ ap (over (digits_value (10 * v + value_of c) cs)) (scaled (length cs) d))
 
-whole_is : (v n : ℕ) (w : List ℕ) → AllDecimal w → 0 < n + length w → n + length w ≤ 15 → whole_from v n w ≡ Is (digits_value v w) 1
+whole_is : (v n : ℕ) (w : List ℕ) → AllDecimal w → 0 < n + length w → n + length w ≤ 15 → whole_from v n w ≡ Some (digits_value v w, 1)
 unfolding whole_from digits_value
 whole_is v n [] a z h = let k : n ≡ 0 → ⊥ = λ e. omega arith in rw (ne_eqb _ _ k) refl
 whole_is v n (c ∷ cs) a z h =
@@ -54,20 +64,20 @@ whole_is v n (c ∷ cs) a z h =
     rw (ne_eqb _ _ (not-point c a.0), le-ltb _ _ a.0, le-ltb _ _ l) (whole_is (10 * v + value_of c) (n + 1) cs a.1 y m)
 
 point-is : (v n : ℕ) (w p : List ℕ) → AllDecimal w → AllDecimal p → 0 < n + length w → 0 < length p → n + length w + length p ≤ 15
-    → whole_from v n (w ++ (46 ∷ p)) ≡ Is (digits_value v (w ++ p)) (10 ^ length p)
+    → whole_from v n (w ++ (46 ∷ p)) ≡ Some (digits_value v (w ++ p), 10 ^ length p)
 unfolding whole_from digits_value
 point-is v n [] p a b z y h =
     let k : n ≡ 0 → ⊥ = λ e. omega arith in
     let q : length p ≡ 0 → ⊥ = λ e. omega arith in
     let m : n + length p ≤ 15 = omega arith in
-    rw (ne_eqb _ _ k, ne_eqb _ _ q) (part-is v n 1 p b m ∙ ap (Is (digits_value v p)) (mul-one (10 ^ length p)))
+    rw (ne_eqb _ _ k, ne_eqb _ _ q) (part-is v n 1 p b m ∙ ap (over (digits_value v p)) (mul-one (10 ^ length p)))
 point-is v n (c ∷ cs) p a b z y h =
     let l : n ≤ 14 = omega arith in
     let x : 0 < n + 1 + length cs = omega arith in
     let m : n + 1 + length cs + length p ≤ 15 = omega arith in
     rw (ne_eqb _ _ (not-point c a.0), le-ltb _ _ a.0, le-ltb _ _ l) (point-is (10 * v + value_of c) (n + 1) cs p a.1 b x y m)
 
-typed-taken : (l : List ℕ) (n d : ℕ) → Typed l n d → whole_from 0 0 l ≡ Is n d
+typed-taken : (l : List ℕ) (n d : ℕ) → Typed l n d → whole_from 0 0 l ≡ Some (n, d)
 typed-taken l n d (whole w a z h) = whole_is 0 0 w a (omega arith) (omega arith)
 typed-taken l n d (pointed w p a b z y h) = point-is 0 0 w p a b (omega arith) y (omega arith)
 
@@ -78,9 +88,9 @@ record Part (v n d : ℕ) (l : List ℕ) (x e : ℕ) : Type 0 where
   pub number : x ≡ digits_value v l
   pub scale : e ≡ 10 ^ length l * d
 
-is-part : (v n d : ℕ) (l : List ℕ) (x e : ℕ) → n ≤ 15 → part_from_lem v n d l ≡ Is x e → Part v n d l x e
+is-part : (v n d : ℕ) (l : List ℕ) (x e : ℕ) → n ≤ 15 → part_from_lem v n d l ≡ Some (x, e) → Part v n d l x e
 unfolding part_from_lem digits_value
-is-part v n d [] x e h q = record { all = tt; few = omega arith; number = cc; scale = cc (one-mul d) }
+is-part v n d [] x e h q = record { all = tt; few = omega arith; number = number-of v d q; scale = scale-of v d q ∙ sym (one-mul d) }
 is-part v n d (c ∷ cs) x e h q =
     ⊎_elim (λ f. absurd (not_is f.1))
     (λ f. ⊎_elim (λ g. absurd (not_is g.1))
@@ -129,7 +139,7 @@ cut_on v n c cs x e h t = record {
   scale = t.scale;
 }
 
-is_whole : (v n : ℕ) (l : List ℕ) (x e : ℕ) → n ≤ 15 → whole_from v n l ≡ Is x e → Flat v n l x e ⊎ Cut v n l x e
+is_whole : (v n : ℕ) (l : List ℕ) (x e : ℕ) → n ≤ 15 → whole_from v n l ≡ Some (x, e) → Flat v n l x e ⊎ Cut v n l x e
 unfolding whole_from digits_value
 is_whole v n [] x e h q =
     ⊎_elim (λ f. absurd (not_is f.1))
@@ -139,8 +149,7 @@ is_whole v n [] x e h q =
       | inl y ↦ absurd (z y)
       | inr y ↦ omega arith
     ] in
-    let m : Is v 1 ≡ Is x e = f.1 in
-    inl (record { all = tt; some = k; few = omega arith; number = cc; scale = cc }))
+    inl (record { all = tt; some = k; few = omega arith; number = number-of v 1 f.1; scale = scale-of v 1 f.1 }))
     (chosen (eqb n 0) q)
   where
     dec_zero : (n : ℕ) → (n ≡ 0) ⊎ (0 < n)
@@ -182,7 +191,7 @@ is_whole v n (c ∷ cs) x e h q =
     positive zero h = absurd (h refl)
     positive (suc n) h = omega arith
 
-taken-typed : (l : List ℕ) (n d : ℕ) → whole_from 0 0 l ≡ Is n d → Typed l n d
+taken-typed : (l : List ℕ) (n d : ℕ) → whole_from 0 0 l ≡ Some (n, d) → Typed l n d
 taken-typed l n d q =
     ⊎_elim
     (λ t. subst (λ (x : ℕ). Typed l x d) (sym t.number) (subst (λ (x : ℕ). Typed l (digits_value 0 l) x) (sym t.scale) (whole l t.all (omega (arith, t.some)) (omega (arith, t.few)))))
@@ -192,11 +201,11 @@ taken-typed l n d q =
     (subst (λ (x : List ℕ). Typed x (digits_value 0 (t.w ++ t.p)) (10 ^ length t.p)) (sym t.is) (pointed t.w t.p t.first t.last (omega (arith, t.some)) t.more (omega (arith, t.few))))))
     (is_whole 0 0 l n d (omega arith) q)
 
-pub decimal-exactly : (l : List ℕ) (n d : ℕ) → (whole_from 0 0 l ≡ Is n d) ↔ Typed l n d
+pub decimal-exactly : (l : List ℕ) (n d : ℕ) → (whole_from 0 0 l ≡ Some (n, d)) ↔ Typed l n d
 decimal-exactly l n d = (taken-typed l n d, typed-taken l n d)
 
 -- ---- a typed decimal is the f64 nearest to it, and one with `-` in front is that below zero
-pub typed-nearest : (l : List ℕ) (n d : ℕ) → Typed l n d → typed_of l ≡ Value (round binary64 false n d)
+pub typed-nearest : (l : List ℕ) (n d : ℕ) → Typed l n d → typed_of l ≡ Some (round binary64 false n d)
 unfolding typed_of
 typed-nearest l n d t = ap nearest_to (typed-taken l n d t)
 
@@ -207,7 +216,7 @@ opens l n d (whole (c ∷ cs) a z h) = (z, omega arith, not-sign c a.0)
 opens l n d (pointed [] p a b z y h) = absurd (omega arith)
 opens l n d (pointed (c ∷ cs) p a b z y h) = (omega arith, omega (arith, length-append cs (46 ∷ p)), not-sign c a.0)
 
-pub real-nearest : (l : List ℕ) (n d : ℕ) → Typed l n d → real_of_lem l ≡ Value (round binary64 false n d)
+pub real-nearest : (l : List ℕ) (n d : ℕ) → Typed l n d → real_of_lem l ≡ Some (round binary64 false n d)
 unfolding real_of_lem
 real-nearest l n d t =
     let o = opens l n d t in
@@ -215,7 +224,7 @@ real-nearest l n d t =
     let k : length l ≡ 18 → ⊥ = λ e. omega arith in
     rw (ne_eqb _ _ z, ne_eqb _ _ o.2, ne_eqb _ _ k) (typed-nearest l n d t)
 
-pub real-below-zero : (l : List ℕ) (n d : ℕ) → Typed l n d → real_of_lem (45 ∷ l) ≡ Value (neg (round binary64 false n d))
+pub real-below-zero : (l : List ℕ) (n d : ℕ) → Typed l n d → real_of_lem (45 ∷ l) ≡ Some (neg (round binary64 false n d))
 unfolding real_of_lem
 real-below-zero l n d t = let z : suc (length l) ≡ 0 → ⊥ = λ e. omega arith in rw (ne_eqb _ _ z) (ap below_zero (typed-nearest l n d t))
 
@@ -242,5 +251,5 @@ sizes l n d (pointed w p a b z y h) = (
 )
 
 -- a typed decimal is a number than which no f64 is nearer to what was typed
-pub typed-best : (l : List ℕ) (n d : ℕ) → Typed l n d → (x : Float) × (real_of_lem l ≡ Value x) × Nearest x n d
+pub typed-best : (l : List ℕ) (n d : ℕ) → Typed l n d → (x : Float) × (real_of_lem l ≡ Some x) × Nearest x n d
 typed-best l n d t = let s = sizes l n d t in (round binary64 false n d, real-nearest l n d t, quotient-nearest n d s.1 s.0)

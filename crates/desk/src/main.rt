@@ -10,14 +10,6 @@ ghost use Rattle.std.specs.Prelude.{◌≡◌, ◌≤◌, length, take};
 use std::io::{Read, Stdin, Stdout};
 use std::process::ExitCode;
 
-// What came: an octet; nothing, for the input has ended; nothing, for it could not be read.
-#[derive(Clone, Copy)]
-enum Came {
-    Octet(u8),
-    Ended,
-    Unread,
-}
-
 // What ends the desk before its input has ended.
 #[derive(Clone, Copy)]
 enum Fault {
@@ -56,31 +48,33 @@ fn without_cr(line: &[u8], length: usize) -> usize {
 }
 
 // The octet at `at`, which is then the next place, where it is one of those up to `end`.
-fn octet_at(chunk: &[u8], at: &mut usize, end: usize) -> Came {
+fn octet_at(chunk: &[u8], at: &mut usize, end: usize) -> Option<u8> {
     let i = *at;
-    if i < end {
-        if i < chunk.len() {
-            *at = i + 1;
-            return Came::Octet(chunk[i]);
-        }
+    if end <= i {
+        return None;
     }
-    Came::Ended
+    let octet = *chunk.get(i)?;
+    *at = i + 1;
+    Some(octet)
 }
 
 // The next octet of the input: of what was read and stands in `chunk` from `at` to `end`, or, where
-// all that is taken, of what is read next.
-fn next_octet(mut input: Stdin, chunk: &mut [u8], at: &mut usize, end: &mut usize) -> Came {
+// all that is taken, of what is read next; none where the input has ended.
+fn next_octet(
+    mut input: Stdin,
+    chunk: &mut [u8],
+    at: &mut usize,
+    end: &mut usize,
+) -> Result<Option<u8>, Fault> {
     if *at < *end {
-        return octet_at(chunk, at, *end);
+        return Ok(octet_at(chunk, at, *end));
     }
-    match input.read(chunk) {
-        Err(_) => Came::Unread,
-        Ok(got) => {
-            *at = 0;
-            *end = got;
-            octet_at(chunk, at, got)
-        }
-    }
+    let Ok(got) = input.read(chunk) else {
+        return Err(Fault::Unread);
+    };
+    *at = 0;
+    *end = got;
+    Ok(octet_at(chunk, at, got))
 }
 
 // Puts the octets up to the next LF, or to the input's end, into `line`, and answers how many there
@@ -96,19 +90,14 @@ fn next_line(
 ) -> Result<usize, Fault> {
     let mut held: usize = 0;
     for _ in 0..u64::MAX {
-        match next_octet(input, chunk, at, end) {
-            Came::Octet(octet) => {
-                if octet == b'\n' {
-                    return Ok(without_cr(line, held));
-                }
-                held = printing::put_octet(octet, line, held);
-            }
-            Came::Ended => {
-                *more = false;
-                return Ok(held);
-            }
-            Came::Unread => return Err(Fault::Unread),
+        let Some(octet) = next_octet(input, chunk, at, end)? else {
+            *more = false;
+            return Ok(held);
+        };
+        if octet == b'\n' {
+            return Ok(without_cr(line, held));
         }
+        held = printing::put_octet(octet, line, held);
     }
     *more = false;
     Ok(0)
@@ -140,6 +129,7 @@ fn answer_all(input: Stdin, output: Stdout) -> Result<(), Fault> {
     let mut helpers = [0u8; 4096];
     let mut totals = [0u8; 64];
     let mut ticks = [0u8; 4096];
+    // Arrays of fixed length, lent on with a place beside each: nothing is allocated.
     let mut chunk = [0u8; 65536];
     let mut line = [0u8; 98304];
     let mut scratch = [0u8; 65536];

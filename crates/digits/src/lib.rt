@@ -5,8 +5,6 @@ ghost use Rattle.std.specs.Prelude.{◌≡◌, ◌≤◌};
 ghost use Rattle.words.specs.Digits.{value_of};
 ghost use Rattle.words.specs.Words.{word_end_lem, number_of, octet_of_lem, all_digits_lem};
 
-use words::Number;
-
 // What a hexadecimal digit of either case stands for; 16 for an octet that is no digit.
 pub fn value(digit: u8) -> u8
     ensures { (result ≡ value_of digit) × (result ≤ 16) }
@@ -37,66 +35,55 @@ pub fn value(digit: u8) -> u8
 pub fn word_end(line: &[u8], from: usize) -> usize
     ensures { result ≡ word_end_lem line.now from }
 {
-    let mut at = from;
-    while at < line.len() {
+    for at in from..line.len() {
         if line[at] == b' ' {
             return at;
         }
-        at += 1;
     }
-    at
+    line.len().max(from)
 }
 
 // The number that a word of decimal digits stands for, up to `most`.
-pub fn number_of(word: &[u8], most: u32) -> Number
+pub fn number_of(word: &[u8], most: u32) -> Option<u32>
     ensures { result ≡ number_of most word.now }
 {
     if word.len() == 0 {
-        return Number::Not;
+        return None;
     }
     if 10 < word.len() {
-        return Number::Not;
+        return None;
     }
     let mut number: u64 = 0;
-    let mut i = 0;
-    while i < word.len() {
-        let digit = value(word[i]);
+    for &octet in word {
+        let digit = value(octet);
         if 9 < digit {
-            return Number::Not;
+            return None;
         }
         number = 10 * number + digit as u64;
         if (most as u64) < number {
-            return Number::Not;
+            return None;
         }
-        i += 1;
     }
-    Number::Is(number as u32)
+    Some(number as u32)
 }
 
 // Whether each octet of a word is a hexadecimal digit.
 fn all_digits(word: &[u8]) -> bool
     ensures { result ≡ all_digits_lem word.now }
 {
-    let mut i = 0;
-    while i < word.len() {
-        if 15 < value(word[i]) {
-            return false;
-        }
-        i += 1;
-    }
-    true
+    word.iter().all(|&octet| value(octet) <= 15)
 }
 
 // The octet that a word of two hexadecimal digits stands for.
-pub fn octet_of(word: &[u8]) -> Number
+pub fn octet_of(word: &[u8]) -> Option<u32>
     ensures { result ≡ octet_of_lem word.now }
 {
     if word.len() == 2 {
         if all_digits(word) {
             let high = value(word[0]) as u32;
             let low = value(word[1]) as u32;
-            return Number::Is((16 * high + low) % 256);
+            return Some((16 * high + low) % 256);
         }
     }
-    Number::Not
+    None
 }

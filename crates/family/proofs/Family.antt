@@ -9,14 +9,13 @@ use native.Mathlib.Omega.{arith}
 use borrow.Author.Tests.{le-ltb}
 use lib.Dec.{ltb}
 use lib.ListN.{length}
+use Rattle.std.specs.Prelude.{Option, Some, None}
 use Rattle.octets.specs.Octet.{octet, octets, AllOctets}
 use Rattle.octets.specs.Answer.{accepted, refused}
 use Rattle.octets.proofs.Answer.{refused-accepted, accepted-same, past-test}
 use Rattle.octets.proofs.Octet.{length-octets}
 use Rattle.layout.specs.declared.Shape.{Shape}
 use Rattle.parts.specs.declared.Parts.{Parts}
-use Rattle.layout.specs.declared.Row.{Row}
-use Rattle.layout.specs.declared.Row.TheVariants.{Has, Unknown}
 use Rattle.layout.specs.Container.{kind_at}
 use Rattle.layout.specs.Gaps.{Agrees}
 use Rattle.layout.specs.Laid.{LaidOut}
@@ -37,7 +36,7 @@ use Rattle.family.specs.Family.{Family, read_in, of_shape, family_write_in, agai
 use Rattle.family.specs.Forms.{FamilyFormed, FamilyCompact, FamilySays}
 
 -- one row has one shape
-pub shape_one : {s t : Shape} → Has s ≡ Has t → s ≡ t
+pub shape_one : {s t : Shape} → Some s ≡ Some t → s ≡ t
 shape_one e = cc
 
 module _ (F : Family) where
@@ -68,11 +67,11 @@ module _ (F : Family) where
       )
 
   -- ---- what writing accepts
-  row-says : (r : Row) (o : Order) (y : ℕ × List ℕ) → of_shape r F.most o ≡ accepted y → (s : Shape) × (r ≡ Has s) × (written_of s F.most o ≡ accepted y)
-  row-says (Has s) o y e = (s, refl, e)
-  row-says Unknown o y e = absurd (refused-accepted e)
+  row-says : (r : Option Shape) (o : Order) (y : ℕ × List ℕ) → of_shape r F.most o ≡ accepted y → (s : Shape) × (r ≡ Some s) × (written_of s F.most o ≡ accepted y)
+  row-says (Some s) o y e = (s, refl, e)
+  row-says None o y e = absurd (refused-accepted e)
 
-  write-says : (o : Order) (n : ℕ) (ys : List ℕ) → family_write_in F o ≡ accepted (n, ys) → (s : Shape) × (F.row o.kind ≡ Has s) × Taken s F.most o n ys
+  write-says : (o : Order) (n : ℕ) (ys : List ℕ) → family_write_in F o ≡ accepted (n, ys) → (s : Shape) × (F.row o.kind ≡ Some s) × Taken s F.most o n ys
   write-says o n ys e =
       let b = past-test 3 0 (ltb 255 o.kind) e in
       let r = row-says (F.row o.kind) o (n, ys) b.1 in
@@ -83,7 +82,7 @@ module _ (F : Family) where
   written_small o n ys e = let t = (write-says o n ys e).2 in omega (arith, t.short, t.count, ap length t.octets)
 
   -- so is what is written of one row
-  pub shape-small : (r : Row) (o : Order) (n : ℕ) (ys : List ℕ) → of_shape r F.most o ≡ accepted (n, ys) → n ≤ F.most
+  pub shape-small : (r : Option Shape) (o : Order) (n : ℕ) (ys : List ℕ) → of_shape r F.most o ≡ accepted (n, ys) → n ≤ F.most
   shape-small r o n ys e = let k = row-says r o (n, ys) e in let t = written-taken k.0 F.most o n ys k.2 in omega (arith, t.short, t.count, ap length t.octets)
 
   -- what is written reads; it is in the compact form and says what was given,
@@ -94,7 +93,7 @@ module _ (F : Family) where
       let a = write-says o n ys e in
       (a.2.count, subst (λ (m : List ℕ). (p : Parts) × (read_in F m ≡ accepted p) × FamilyCompact F m p × (said_by m F.width p ≡ o)) (sym a.2.octets) (go a.0 a.1 a.2.fits ((is-run-exactly o.run).0 a.2.whole) a.2.short))
     where
-      go : (s : Shape) → F.row o.kind ≡ Has s → (f : Fits s o) → (qs : List Param) × Params o.run 0 qs (length o.run) → length (order_octets s o) ≤ F.most
+      go : (s : Shape) → F.row o.kind ≡ Some s → (f : Fits s o) → (qs : List Param) × Params o.run 0 qs (length o.run) → length (order_octets s o) ≤ F.most
           → (p : Parts) × (read_in F (order_octets s o) ≡ accepted p) × FamilyCompact F (order_octets s o) p × (said_by (order_octets s o) F.width p ≡ o)
       go s listed f r short =
           let p = placed s o f in

@@ -8,6 +8,7 @@ use native.Mathlib.Omega.{arith}
 use borrow.Author.Tests.{ltb-true, ltb-false}
 use lib.Dec.{ltb}
 use lib.ListN.{length}
+use Rattle.std.specs.Prelude.{Option, Some, None}
 use Rattle.octets.specs.Octet.{octets}
 use Rattle.octets.specs.Answer.{Answer, ◌then◌}
 use Rattle.octets.specs.Filled.{room_for}
@@ -17,8 +18,6 @@ use Rattle.octets.proofs.Filled.{judges-filled, room-judges}
 use Rattle.octets.proofs.Faults.{judges-done, judges-there, judges-absent, judges-if, judges-then, judges-choice}
 use Rattle.layout.specs.declared.Shape.{Shape}
 use Rattle.parts.specs.declared.Parts.{Parts}
-use Rattle.layout.specs.declared.Row.{Row}
-use Rattle.layout.specs.declared.Row.TheVariants.{Has, Unknown}
 use Rattle.layout.specs.Container.{kind_at, parts_of}
 use Rattle.layout.specs.Laid.{Framed}
 use Rattle.layout.specs.Faults.{message_faults}
@@ -46,7 +45,7 @@ last-absent f g a j = record {
 }
 
 -- ---- reading and writing again, with any row and any header
-module _ (m : List ℕ) (w most : ℕ) (r : Row) (p : Parts) (f : Framed m w most r p) where
+module _ (m : List ℕ) (w most : ℕ) (r : Option Shape) (p : Parts) (f : Framed m w most r p) where
   -- a message is well formed in one way only
   one-shape : (q : Parts) (g : Framed m w most r q) → (g.shape ≡ f.shape) × (q ≡ p)
   one-shape q g = (shape_one (sym g.listed ∙ f.listed), accepted-same (sym ((parts-exactly m w most r q).1 g) ∙ (parts-exactly m w most r p).1 f))
@@ -57,7 +56,7 @@ module _ (m : List ℕ) (w most : ℕ) (r : Row) (p : Parts) (f : Framed m w mos
   again-judges head =
       let fits = said_fits m w f.shape p f.params f.laid head in
       let ex = exceeds-exactly f.shape (said_by m w p) (said_fits m w f.shape p f.params f.laid (octets m 0 w)) in
-      subst (λ (y : Answer (ℕ × List ℕ)). Judges y (fault 12 0 (CannotHold m w most r) ∷ fault 2 0 (TooLong m w most r head) ∷ [])) (ap (λ (z : Row). of_shape z most (said_with head m w p)) (sym f.listed))
+      subst (λ (y : Answer (ℕ × List ℕ)). Judges y (fault 12 0 (CannotHold m w most r) ∷ fault 2 0 (TooLong m w most r head) ∷ [])) (ap (λ (z : Option Shape). of_shape z most (said_with head m w p)) (sym f.listed))
       (rw ((fits-exactly f.shape (said_with head m w p)).1 fits, said-run m w f.shape p f.params f.laid)
       (judges-if (exceeds (marks f.shape.opt (contents_in f.shape (said_with head m w p)) (said_with head m w p).run))
       (λ t. (p, f, ex.0 t))
@@ -81,7 +80,7 @@ module _ (m : List ℕ) (w most : ℕ) (r : Row) (p : Parts) (f : Framed m w mos
   again-judges-alone head h = last-absent _ _ (λ at x. never-too-long head h x.1) (again-judges head)
 
 -- the reader's, 12, 2, 13
-pub rewrite-judges : (m : List ℕ) (w most : ℕ) (r : Row) (head buffer : List ℕ) → Judges (rewrite_of m w most r head buffer).answer (rewrite_faults m w most r head buffer)
+pub rewrite-judges : (m : List ℕ) (w most : ℕ) (r : Option Shape) (head buffer : List ℕ) → Judges (rewrite_of m w most r head buffer).answer (rewrite_faults m w most r head buffer)
 unfolding rewrite_of
 rewrite-judges m w most r head buffer =
     judges-filled buffer (rewrite_in m w most r head then room_for buffer) (rewrite_faults m w most r head buffer)
@@ -99,9 +98,9 @@ module _ (F : Family) where
       (λ t. judges-there (fault 3 0 (NoType F o.kind)) _ 0 (refl, inl (ltb-true _ _ t)) (λ at h. h.0))
       (λ t. go (F.row o.kind) refl (ltb-false _ _ t))
     where
-      go : (r : Row) → F.row o.kind ≡ r → o.kind ≤ 255 → Judges (of_shape r F.most o) (fault 3 0 (NoType F o.kind) ∷ shape_faults r F.most o)
-      go Unknown e h = judges-there (fault 3 0 (NoType F o.kind)) [] 0 (refl, inr e) (λ at h. h.0)
-      go (Has s) e h =
+      go : (r : Option Shape) → F.row o.kind ≡ r → o.kind ≤ 255 → Judges (of_shape r F.most o) (fault 3 0 (NoType F o.kind) ∷ shape_faults r F.most o)
+      go None e h = judges-there (fault 3 0 (NoType F o.kind)) [] 0 (refl, inr e) (λ at h. h.0)
+      go (Some s) e h =
           judges-absent (fault 3 0 (NoType F o.kind)) (λ at x. ⊎_elim (λ y. omega arith) (λ y. let z : ◌≡◌ {A = ℕ} 0 1 = cc in omega arith) x.1) (written-judges s F.most o)
 
   -- then 13

@@ -3,14 +3,14 @@ use Prim.Native.Nat.{ℕ}
 use mathlib.Core.Path.{◌≡◌, refl}
 use mathlib.Core.List.{List, [], ◌∷◌, ◌++◌}
 use native.Mathlib.Omega.{arith}
+use Rattle.std.specs.Prelude.{Option, Some, None}
 use Rattle.octets.specs.Answer.{refused}
 use Rattle.octets.specs.Faults.{fault}
 use Rattle.octets.specs.Filled.{room_fault}
 use Rattle.octets.proofs.Places.{Each, each_append, refusal-so}
-use Rattle.layout.specs.declared.Row.{Row}
-use Rattle.layout.specs.declared.Row.TheVariants.{Has, Unknown}
 use Rattle.layout.specs.Container.{kind_at}
 use Rattle.layout.specs.Faults.{row_faults, message_faults}
+use Rattle.layout.specs.declared.Shape.{Shape}
 use Rattle.writing.specs.Write.{Order}
 use Rattle.family.specs.Family.{Family, read_in, family_write_in, family_write_of, rewrite_in, rewrite_of, family_compact_of}
 use Rattle.family.specs.Faults.{family_faults, shape_faults, family_writer_faults, family_write_faults, CannotHold, TooLong, rewrite_faults}
@@ -20,9 +20,9 @@ use Rattle.family.proofs.Judged.{rewrite-judges, read-judges, write-judges}
 abbrev Other : ℕ → ℕ → Type 0
 Other n at = n ≡ 9 → ⊥
 
-row-never : (m : List ℕ) (w : ℕ) (r : Row) → Each Other (row_faults m w r)
-row-never m w Unknown = tt
-row-never m w (Has s) = (
+row-never : (m : List ℕ) (w : ℕ) (r : Option Shape) → Each Other (row_faults m w r)
+row-never m w None = tt
+row-never m w (Some s) = (
   λ at h e. omega arith,
   (
     λ at h e. omega arith,
@@ -48,15 +48,15 @@ row-never m w (Has s) = (
   ),
 )
 
-message-never : (m : List ℕ) (w most : ℕ) (r : Row) → Each Other (message_faults m w most r)
+message-never : (m : List ℕ) (w most : ℕ) (r : Option Shape) → Each Other (message_faults m w most r)
 message-never m w most r = (λ at h e. omega arith, (λ at h e. omega arith, (λ at h e. omega arith, row-never m w r)))
 
-shape-never : (r : Row) (most : ℕ) (o : Order) → Each Other (shape_faults r most o)
-shape-never Unknown most o = tt
-shape-never (Has s) most o = (λ at h e. omega arith, (λ at h e. omega arith, (λ at h e. omega arith, (λ at h e. omega arith, tt))))
+shape-never : (r : Option Shape) (most : ℕ) (o : Order) → Each Other (shape_faults r most o)
+shape-never None most o = tt
+shape-never (Some s) most o = (λ at h e. omega arith, (λ at h e. omega arith, (λ at h e. omega arith, (λ at h e. omega arith, tt))))
 
 -- reading and writing again, with any row and any header
-pub rewrite-nine : (m : List ℕ) (w most : ℕ) (r : Row) (head buffer : List ℕ) (at : ℕ) → (rewrite_of m w most r head buffer).answer ≡ refused 9 at → ⊥
+pub rewrite-nine : (m : List ℕ) (w most : ℕ) (r : Option Shape) (head buffer : List ℕ) (at : ℕ) → (rewrite_of m w most r head buffer).answer ≡ refused 9 at → ⊥
 rewrite-nine m w most r head buffer at e =
     refusal-so Other _ (rewrite_faults m w most r head buffer) (rewrite-judges m w most r head buffer)
     (each_append Other (message_faults m w most r ++ (fault 12 0 (CannotHold m w most r) ∷ fault 2 0 (TooLong m w most r head) ∷ [])) (room_fault (rewrite_in m w most r head) buffer ∷ [])

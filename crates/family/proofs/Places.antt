@@ -7,16 +7,16 @@ use mathlib.Core.Logic.{◌⊎◌, inr, ⊎_elim}
 use native.Mathlib.Omega.{arith}
 use lib.Dec.{ltb}
 use lib.ListN.{length}
+use Rattle.std.specs.Prelude.{Option, Some, None}
 use Rattle.octets.specs.Octet.{octet}
 use Rattle.octets.specs.Answer.{Answer, accepted, refused, ◌then◌}
 use Rattle.octets.specs.Filled.{room_for}
 use Rattle.octets.proofs.Answer.{refused-accepted, refused_as}
 use Rattle.octets.proofs.Places.{UpTo, up-to-refused, up-to-if, up-to-room, up-to-done, handed-on, room-handed-on}
 use Rattle.parts.specs.declared.Parts.{Parts}
-use Rattle.layout.specs.declared.Row.{Row}
-use Rattle.layout.specs.declared.Row.TheVariants.{Has, Unknown}
 use Rattle.layout.specs.Container.{kind_at, parts_of}
 use Rattle.layout.specs.Places.{Place}
+use Rattle.layout.specs.declared.Shape.{Shape}
 use Rattle.layout.proofs.Places.{place-rule, place-within, place-most}
 use Rattle.writing.specs.Write.{Order}
 use Rattle.writing.specs.Compact.{said_with}
@@ -28,13 +28,13 @@ pub parts-refused : {A : Type 0} (x : Answer Parts) (f : Parts → A) (n at : �
 parts-refused (accepted p) f n at e = absurd (refused-accepted (sym e))
 parts-refused (refused k q) f n at e = refused_as e
 
-shape-placeless : (r : Row) (most : ℕ) (o : Order) → UpTo 0 (of_shape r most o)
-shape-placeless (Has s) most o = written-placeless s most o
-shape-placeless Unknown most o = up-to-refused _ 3 0 (omega arith)
+shape-placeless : (r : Option Shape) (most : ℕ) (o : Order) → UpTo 0 (of_shape r most o)
+shape-placeless (Some s) most o = written-placeless s most o
+shape-placeless None most o = up-to-refused _ 3 0 (omega arith)
 
 -- reading and writing again, with any row and any header: a refusal is the
 -- reader's, octet and all, or about no octet
-pub rewrite-hands-on : (m : List ℕ) (w most : ℕ) (r : Row) (head buffer : List ℕ) (n at : ℕ) → (rewrite_of m w most r head buffer).answer ≡ refused n at → (parts_of m w most r ≡ refused n at) ⊎ (at ≡ 0)
+pub rewrite-hands-on : (m : List ℕ) (w most : ℕ) (r : Option Shape) (head buffer : List ℕ) (n at : ℕ) → (rewrite_of m w most r head buffer).answer ≡ refused n at → (parts_of m w most r ≡ refused n at) ⊎ (at ≡ 0)
 unfolding rewrite_of
 rewrite-hands-on m w most r head buffer n at e =
     ⊎_elim

@@ -7,6 +7,7 @@ use mathlib.Core.Logic.{⊎_elim}
 use native.Mathlib.Omega.{arith}
 use borrow.Author.Tests.{lt-ltb, le-ltb}
 use lib.ListN.{length}
+use Rattle.std.specs.Prelude.{None}
 use Rattle.octets.specs.Octet.{octet}
 use Rattle.octets.specs.Answer.{refused}
 use Rattle.parts.specs.declared.Parts.{Parts}
@@ -16,36 +17,35 @@ use Rattle.runs.specs.declared.Step.TheVariants.{Param as Stands, Close, End, Pa
 use Rattle.runs.specs.Run.{step_at_lem}
 use Rattle.runs.specs.Params.{Param, Params, Closes}
 use Rattle.runs.proofs.Steps.{at-close, at-end, at-param}
-use Rattle.family.specs.declared.Offer.TheVariants.{Done}
 use Rattle.family.specs.Family.{Family, read_in}
 use Rattle.family.specs.Forms.{FamilyFormed}
 use Rattle.family.specs.Steps.{offer_by, offer_at_lem, past_by, place_after_lem, steps_from, start_in, GivesAll}
 use Rattle.family.proofs.Family.{read-exactly}
 
 -- where a step says done, the place is kept
-pub done-stays : (m : List ℕ) (i : ℕ) → offer_at_lem m i ≡ Done → place_after_lem m i ≡ i
+pub done-stays : (m : List ℕ) (i : ℕ) → offer_at_lem m i ≡ None → place_after_lem m i ≡ i
 unfolding offer_at_lem place_after_lem
 done-stays m i e = go (step_at_lem m i) e
   where
-    go : (x : Step) → offer_by x ≡ Done → past_by i x ≡ i
+    go : (x : Step) → offer_by x ≡ None → past_by i x ≡ i
     go (Stands f) q = absurd (let z : ◌≡◌ {A = ℕ} 0 1 = cc in omega arith)
     go Close q = refl
     go End q = refl
     go Pass q = refl
 
 -- so every later step says done
-pub done-for-ever : (n : ℕ) (m : List ℕ) (i : ℕ) → offer_at_lem m i ≡ Done → GivesAll m [] (steps_from n m i)
+pub done-for-ever : (n : ℕ) (m : List ℕ) (i : ℕ) → offer_at_lem m i ≡ None → GivesAll m [] (steps_from n m i)
 unfolding steps_from
 done-for-ever zero m i e = tt
 done-for-ever (suc n) m i e = (e, subst (λ (k : ℕ). GivesAll m [] (steps_from n m k)) (sym (done-stays m i e)) (done-for-ever n m i e))
 
 -- past the message it is done
-pub past-done : (m : List ℕ) (i : ℕ) → length m ≤ i → offer_at_lem m i ≡ Done
+pub past-done : (m : List ℕ) (i : ℕ) → length m ≤ i → offer_at_lem m i ≡ None
 unfolding offer_at_lem
 past-done m i h = ap offer_by (at-end m i h)
 
 -- at the closing 0 it is done
-pub close-done : (m : List ℕ) (i : ℕ) → Closes m i → offer_at_lem m i ≡ Done
+pub close-done : (m : List ℕ) (i : ℕ) → Closes m i → offer_at_lem m i ≡ None
 unfolding offer_at_lem
 close-done m i h = ap offer_by (at-close m i h)
 

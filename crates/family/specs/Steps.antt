@@ -1,6 +1,6 @@
 -- Stepping through the optional parameters of a message: where it starts, what
 -- each step gives, and where the next one is.
-use Rattle.std.specs.Prelude.{ℕ, zero, suc, ◌+◌, ◌≡◌, List, [], ◌∷◌, ltb, length}
+use Rattle.std.specs.Prelude.{ℕ, zero, suc, ◌+◌, ◌≡◌, List, [], ◌∷◌, Option, Some, None, ltb, length}
 use Rattle.octets.specs.Octet.{octets}
 use Rattle.octets.specs.Choice.{when◌then◌else◌}
 use Rattle.octets.specs.Answer.{Answer, accepted, refused}
@@ -8,20 +8,19 @@ use Rattle.runs.specs.declared.Step.{Step}
 use Rattle.runs.specs.declared.Step.TheVariants.{Param as Stands, Close, End, Pass}
 use Rattle.runs.specs.Run.{step_at_lem}
 use Rattle.runs.specs.Params.{Param}
+use Rattle.runs.specs.declared.Field.{Field}
 use Rattle.parts.specs.declared.Parts.{Parts}
-use Rattle.family.specs.declared.Offer.{Offer}
-use Rattle.family.specs.declared.Offer.TheVariants.{Param as One, Done}
 use Rattle.family.specs.Family.{Family, read_in}
 
 -- a parameter is given; at anything else stepping is done
-abbrev pub offer_by : Step → Offer
-offer_by (Stands f) = One f
-offer_by Close = Done
-offer_by End = Done
-offer_by Pass = Done
+abbrev pub offer_by : Step → Option Field
+offer_by (Stands f) = Some f
+offer_by Close = None
+offer_by End = None
+offer_by Pass = None
 
 -- what a step gives at octet i of a message
-unfoldable pub offer_at_lem : List ℕ → ℕ → Offer
+unfoldable pub offer_at_lem : List ℕ → ℕ → Option Field
 offer_at_lem m i = offer_by (step_at_lem m i)
 
 -- past a parameter; at anything else the place is kept
@@ -36,7 +35,7 @@ unfoldable pub place_after_lem : List ℕ → ℕ → ℕ
 place_after_lem m i = past_by i (step_at_lem m i)
 
 -- what n steps give from octet i on
-unfoldable pub steps_from : ℕ → List ℕ → ℕ → List Offer
+unfoldable pub steps_from : ℕ → List ℕ → ℕ → List (Option Field)
 steps_from zero m i = []
 steps_from (suc n) m i = offer_at_lem m i ∷ steps_from n m (place_after_lem m i)
 
@@ -52,12 +51,12 @@ unfoldable pub start_in : Family → List ℕ → ℕ
 start_in F m = start_by m (read_in F m)
 
 -- the answer is that parameter: its name, and its contents where it says
-abbrev pub Gives : List ℕ → Param → Offer → Type 0
-Gives m q (One f) = (f.name ≡ q.name) × (octets m f.at f.len ≡ q.contents)
-Gives m q Done = ⊥
+abbrev pub Gives : List ℕ → Param → Option Field → Type 0
+Gives m q (Some f) = (f.name ≡ q.name) × (octets m f.at f.len ≡ q.contents)
+Gives m q None = ⊥
 
 -- R54. the answers are those parameters in order, and done from there on
-abbrev pub GivesAll : List ℕ → List Param → List Offer → Type 0
+abbrev pub GivesAll : List ℕ → List Param → List (Option Field) → Type 0
 GivesAll m qs [] = Unit {0}
-GivesAll m [] (g ∷ gs) = (g ≡ Done) × GivesAll m [] gs
+GivesAll m [] (g ∷ gs) = (g ≡ None) × GivesAll m [] gs
 GivesAll m (q ∷ qs) (g ∷ gs) = Gives m q g × GivesAll m qs gs

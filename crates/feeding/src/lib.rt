@@ -25,11 +25,7 @@ fn spread_over(table: &mut [u8], first: usize, last: usize, octet: u8)
     requires { (first ≤ last) × (last ≤ 4095) × (length table.old ≡ 4096) }
     ensures { table.new ≡ spread table.old first last octet }
 {
-    let mut place = first;
-    while place <= last {
-        table[place] = octet;
-        place += 1;
-    }
+    table[first..=last].fill(octet);
 }
 
 // A span has come.
@@ -208,10 +204,8 @@ pub fn feed(
             held: 0,
         };
     }
-    let mut i = 0;
-    while i < chunk.len() {
-        at = step(at, chunk[i], buffer, owners, states, accepted, refused);
-        i += 1;
+    for &octet in chunk {
+        at = step(at, octet, buffer, owners, states, accepted, refused);
     }
     at
 }

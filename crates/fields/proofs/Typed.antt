@@ -1,15 +1,15 @@
 -- A word that is kept as it is typed.
-use Prim.Native.Nat.{ℕ, suc, ◌+◌, ◌-◌, ◌≤◌, ◌<◌}
-use mathlib.Core.Path.{◌≡◌, refl, ◌∙◌, ap}
+use Rattle.std.specs.Prelude.{Some, None}
+use Prim.Native.Nat.{ℕ, suc, ◌+◌, ◌-◌, ◌≤◌}
+use mathlib.Core.Path.{◌≡◌, refl, ◌∙◌}
 use mathlib.Core.Bool.{Bool, true, false}
 use mathlib.Core.List.{List, [], ◌∷◌}
 use native.Mathlib.Omega.{arith}
 use borrow.Author.Tests.{le-ltb}
 use lib.Dec.{ltb}
-use lib.ListN.{length, get_or, take, drop, set, drop_of_length-le}
-use lib.Seq.{sets, take-set-le, length-sets, drop-cons}
+use lib.ListN.{length, take, set}
+use lib.Seq.{sets, take-set-le, length-sets}
 use Rattle.octets.specs.Choice.{when◌then◌else◌}
-use Rattle.words.specs.declared.Number.TheVariants.{Is, Not}
 use Rattle.words.specs.Into.{Entry, entry}
 use Rattle.fields.specs.Placed.{word_into}
 
@@ -20,12 +20,12 @@ sets-keep (x ∷ xs) buffer n at h = sets-keep xs (set buffer at x) n (suc at) (
 
 module _ (word buffer : List ℕ) (at : ℕ) where
   -- it has too many octets
-  pub word-long : ltb 18 (length word) ≡ true → word_into word buffer at ≡ entry Not buffer
+  pub word-long : ltb 18 (length word) ≡ true → word_into word buffer at ≡ entry None buffer
   unfolding word_into
   word-long t = rw t refl
 
   -- there is room for it
-  pub word-into : ltb 18 (length word) ≡ false → at + length word ≤ length buffer → word_into word buffer at ≡ entry (Is (length word)) (sets buffer at word)
+  pub word-into : ltb 18 (length word) ≡ false → at + length word ≤ length buffer → word_into word buffer at ≡ entry (Some (length word)) (sets buffer at word)
   unfolding word_into
   word-into t h =
       let a : at ≤ length buffer = omega arith in
@@ -33,7 +33,7 @@ module _ (word buffer : List ℕ) (at : ℕ) where
       rw (t, le-ltb _ _ a, le-ltb _ _ b) refl
 
   -- the same by the code's own tests
-  pub word_room : length word ≤ 18 → at ≤ length buffer → length word ≤ length buffer - at → entry (Is (length word)) (sets buffer at word) ≡ word_into word buffer at
+  pub word_room : length word ≤ 18 → at ≤ length buffer → length word ≤ length buffer - at → entry (Some (length word)) (sets buffer at word) ≡ word_into word buffer at
   unfolding word_into
   word_room h a l = rw (le-ltb _ _ h, le-ltb _ _ a, le-ltb _ _ l) refl
 
@@ -43,25 +43,10 @@ module _ (word buffer : List ℕ) (at : ℕ) where
   word_keeps = go (ltb 18 (length word)) (ltb (length buffer) at) (ltb (length buffer - at) (length word))
     where
       chose : Bool → Bool → Bool → Entry
-      chose many past full = when many then entry Not buffer else when past then entry Not buffer else when full then entry Not buffer else entry (Is (length word)) (sets buffer at word)
+      chose many past full = when many then entry None buffer else when past then entry None buffer else when full then entry None buffer else entry (Some (length word)) (sets buffer at word)
 
       go : (many past full : Bool) → (take at (chose many past full).left ≡ take at buffer) × (length (chose many past full).left ≡ length buffer)
       go true past full = (refl, refl)
       go false true full = (refl, refl)
       go false false true = (refl, refl)
       go false false false = (sets-keep word buffer at at (omega arith), length-sets buffer at word)
-
--- one octet more is put
-pub word_more : (word buffer : List ℕ) (at i : ℕ) → i < length word → sets (set buffer (at + i) (get_or word i 0)) (at + (i + 1)) (drop (i + 1) word) ≡ sets buffer (at + i) (drop i word)
-word_more word buffer at i h =
-    let e : at + (i + 1) ≡ suc (at + i) = omega arith in
-    let n : i + 1 ≡ suc i = omega arith in
-    rw (e, n, drop-cons word i 0 h) refl
-
--- none is left
-pub word-done : (word buffer : List ℕ) (at i : ℕ) → length word ≤ i → sets buffer (at + i) (drop i word) ≡ buffer
-word-done word buffer at i h = ap (λ (l : List ℕ). sets buffer (at + i) l) (drop_of_length-le word h)
-
--- none was put
-pub word-start : (word buffer : List ℕ) (at : ℕ) → sets buffer (at + 0) (drop 0 word) ≡ sets buffer at word
-word-start word buffer at = let e : at + 0 ≡ at = omega arith in rw e refl

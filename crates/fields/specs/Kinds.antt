@@ -1,8 +1,6 @@
 -- The kinds of a request's fields, and what a word says as a field of a kind.
-use Rattle.std.specs.Prelude.{ℕ, List, [], ◌∷◌, ltb, length}
+use Rattle.std.specs.Prelude.{ℕ, List, [], ◌∷◌, ltb, length, Option, Some, None}
 use Rattle.octets.specs.Choice.{when◌then◌else◌}
-use Rattle.words.specs.declared.Number.{Number}
-use Rattle.words.specs.declared.Number.TheVariants.{Is, Not}
 use Rattle.words.specs.Words.{number_of, octet_of_lem, are_octets, octets_of}
 
 -- the octets of a word that is kept as it is typed, at the most
@@ -37,14 +35,14 @@ pub data Found (A : Type 0) : Type 0 where
   lost : Found A
 
 -- a number that is not below another
-abbrev pub not_below_lem : ℕ → Number → Number
-not_below_lem least (Is v) = when ltb v least then Not else Is v
-not_below_lem least Not = Not
+abbrev pub not_below_lem : ℕ → Option ℕ → Option ℕ
+not_below_lem least (Some v) = when ltb v least then None else Some v
+not_below_lem least None = None
 
 -- a number, as what a field says
-abbrev pub number_says : Number → Found FieldSays
-number_says (Is v) = found (field_says v [])
-number_says Not = lost
+abbrev pub number_says : Option ℕ → Found FieldSays
+number_says (Some v) = found (field_says v [])
+number_says None = lost
 
 -- what a word says as a field of a kind, after a field whose number is `before`
 abbrev pub meaning : Kind → ℕ → List ℕ → Found FieldSays

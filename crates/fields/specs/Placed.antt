@@ -1,9 +1,8 @@
 -- What a word stands for as a field of a kind: a number, or octets, which are put into a lent
 -- scratch; and the field of it.
-use Rattle.std.specs.Prelude.{ℕ, ◌-◌, List, ltb, length}
+use Rattle.std.specs.Prelude.{ℕ, ◌-◌, List, ltb, length, Some, None}
 use Rattle.std.proofs.lemmas.List.Edits.{sets}
 use Rattle.octets.specs.Choice.{when◌then◌else◌}
-use Rattle.words.specs.declared.Number.TheVariants.{Is, Not}
 use Rattle.words.specs.Words.{number_of, octet_of_lem}
 use Rattle.words.specs.Into.{Entry, entry, octets_into_lem}
 use Rattle.fields.specs.declared.Field.{Field}
@@ -21,10 +20,10 @@ no_field = field 0 0 0
 -- on, where it has room for it
 unfoldable pub word_into : List ℕ → List ℕ → ℕ → Entry
 word_into word buffer at =
-    when ltb typed_most (length word) then entry Not buffer
-    else when ltb (length buffer) at then entry Not buffer
-    else when ltb (length buffer - at) (length word) then entry Not buffer
-    else entry (Is (length word)) (sets buffer at word)
+    when ltb typed_most (length word) then entry None buffer
+    else when ltb (length buffer) at then entry None buffer
+    else when ltb (length buffer - at) (length word) then entry None buffer
+    else entry (Some (length word)) (sets buffer at word)
 
 -- the number that a word stands for as a field of a kind, or how many octets, which are put into
 -- the scratch from `next` on

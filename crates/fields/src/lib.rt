@@ -2,6 +2,7 @@
 #![tactic(auto)]
 
 // A field of a line: the number that it stands for, and where its octets stand in the scratch.
+// Its octets stay in the lent scratch, since nothing is allocated.
 #[derive(Clone, Copy)]
 pub struct Field {
     pub value: u32,

@@ -3,16 +3,16 @@
 #![tactic(auto)]
 
 ghost use Rattle.std.specs.Prelude.{◌≡◌, false, ◌∷◌, [], ◌+◌, ◌≤◌, ◌<◌, length};
+ghost use Rattle.octets.specs.Told.{told};
 ghost use Rattle.std.proofs.lemmas.List.Edits.{sets};
 ghost use Rattle.octets.specs.Filled.{leaving};
-ghost use Rattle.octets.specs.Told.{written_told};
 ghost use Rattle.measuring.specs.Measure.{beyond_of};
 ghost use Rattle.writing.specs.Write.{order, closed_run_lem, write_parts_of};
 ghost use Rattle.writing.specs.Inside.{pointer_if, part_if, head_pieces, pointer_pieces, part_pieces, pieces, Near, Stored};
 
 use layout::Shape;
-use measuring::{Frame, Lengths, Measured, Pointers};
-use octets::Written;
+use measuring::{Frame, Lengths, Pointers};
+use octets::Refusal;
 
 // One octet at `at`; the place past it.
 fn put(out: &mut [u8], at: usize, octet: u8) -> usize
@@ -28,12 +28,9 @@ fn put_all(out: &mut [u8], at: usize, octets: &[u8]) -> usize
     requires { at + length octets.now ≤ length out.old }
     ensures { Stored out.old at octets.now result out.new }
 {
-    let mut j = 0;
-    while j < octets.len() {
-        out[at + j] = octets[j];
-        j += 1;
-    }
-    at + j
+    let past = at + octets.len();
+    out[at..past].copy_from_slice(octets);
+    past
 }
 
 // A pointer, where it is wanted; the place past it.
@@ -156,14 +153,14 @@ pub fn write_parts(
     third: &[u8],
     run: &[u8],
     out: &mut [u8],
-) -> Written
-    ensures { leaving (written_told result) out.new ≡
+) -> Result<usize, Refusal>
+    ensures { leaving (told result) out.new ≡
         write_parts_of shape most (order head.now kind fixed.now first.now second.now third.now run.now) out.old }
 {
     if measuring::unfit(shape, fixed, first, second, third, run) {
-        return Written::Refused(10, 0);
+        return Err(Refusal::Misfit);
     } else if !runs::is_run(run) {
-        return Written::Refused(11, 0);
+        return Err(Refusal::BadRun);
     }
     let lengths = Lengths {
         head: head.len(),
@@ -172,17 +169,13 @@ pub fn write_parts(
         third: third.len(),
         run: run.len(),
     };
-    match measuring::measure(shape, most, lengths) {
-        Measured::Refused(n) => Written::Refused(n, 0),
-        Measured::Fits(frame) => {
-            let size = frame.size;
-            if out.len() < size {
-                return Written::Refused(13, 0);
-            }
-            store(
-                shape, frame, head, kind, fixed, first, second, third, run, out,
-            );
-            Written::Octets(size)
-        }
+    let frame = measuring::measure(shape, most, lengths)?;
+    let size = frame.size;
+    if out.len() < size {
+        return Err(Refusal::NoRoom);
     }
+    store(
+        shape, frame, head, kind, fixed, first, second, third, run, out,
+    );
+    Ok(size)
 }

@@ -7,11 +7,11 @@ use native.Mathlib.Omega.{arith}
 use borrow.Author.Tests.{lt-ltb, le-ltb, ltb-false}
 use lib.Dec.{ltb}
 use lib.ListN.{length}
+use Rattle.std.specs.Prelude.{Some, None}
 use Rattle.octets.specs.Choice.{when◌then◌else◌}
 use Rattle.octets.proofs.Choice.{decided}
 use Rattle.octets.specs.Octet.{octet}
 use Rattle.octets.specs.Answer.{accepted, refused}
-use Rattle.runs.specs.declared.Found.TheVariants.{At, Nowhere}
 use Rattle.runs.specs.Run.{named_from}
 use Rattle.runs.specs.Params.{Param, Params, NoneNamed, FirstNamed}
 use Rattle.runs.proofs.Exactly.{is-run-exactly}
@@ -26,7 +26,7 @@ use Rattle.isup.proofs.Exactly.{read-exactly, params-one}
 
 -- ---- the search in a message's run
 module _ (m : List ℕ) (x : Message) (f : WellFormed m x) (name : ℕ) where
-  pub in-run-exactly : (a n : ℕ) → (named_in m x.parts.optional name ≡ At a n) ↔ FirstNamed m x.parts.optional.from f.params name a n
+  pub in-run-exactly : (a n : ℕ) → (named_in m x.parts.optional name ≡ Some (a, n)) ↔ FirstNamed m x.parts.optional.from f.params name a n
   unfolding named_in
   in-run-exactly a n =
       ⊎_elim
@@ -44,7 +44,7 @@ module _ (m : List ℕ) (x : Message) (f : WellFormed m x) (name : ℕ) where
           not-nil [] h = let z : ◌≡◌ {A = ℕ} 0 1 = cc in omega arith
           not-nil (q ∷ qs) h = let z : ◌≡◌ {A = ℕ} 0 1 = cc in omega arith
 
-  pub not-in-run : (named_in m x.parts.optional name ≡ Nowhere) ↔ NoneNamed name f.params
+  pub not-in-run : (named_in m x.parts.optional name ≡ None) ↔ NoneNamed name f.params
   unfolding named_in
   not-in-run =
       ⊎_elim
@@ -53,7 +53,7 @@ module _ (m : List ℕ) (x : Message) (f : WellFormed m x) (name : ℕ) where
       (run-params m 2 f.shape x.parts f.params f.laid)
 
   -- the message lacks the name exactly when its search ends in nothing
-  pub lacks-exactly : (named_in m x.parts.optional name ≡ Nowhere) ↔ Lacks m name
+  pub lacks-exactly : (named_in m x.parts.optional name ≡ None) ↔ Lacks m name
   lacks-exactly = (
     λ h y g. subst (λ (qs : List Param). NoneNamed name qs) (params-one m x y f g) (not-in-run.0 h),
     λ l. not-in-run.1 (l x f),
@@ -64,10 +64,10 @@ module _ (d : List ℕ) (name : ℕ) (ds : List Param) (p : Params d 0 ds (lengt
   ended : length d ≤ length d
   ended = omega arith
 
-  pub in-defaults-exactly : (a n : ℕ) → (named_from d 0 name ≡ At a n) ↔ FirstNamed d 0 ds name a n
+  pub in-defaults-exactly : (a n : ℕ) → (named_from d 0 name ≡ Some (a, n)) ↔ FirstNamed d 0 ds name a n
   in-defaults-exactly a n = named-among ds d 0 name (length d) p (inr (inl ended)) a n
 
-  pub run-lacks-exactly : (named_from d 0 name ≡ Nowhere) ↔ RunLacks d name
+  pub run-lacks-exactly : (named_from d 0 name ≡ None) ↔ RunLacks d name
   run-lacks-exactly = (
     λ h es q. subst (λ (qs : List Param). NoneNamed name qs) (params-unique ds es d 0 (length d) (length d) p q (inr (inl ended)) (inr (inl ended))).0 ((nowhere-among ds d 0 name (length d) p (inr (inl ended))).0 h),
     λ l. (nowhere-among ds d 0 name (length d) p (inr (inl ended))).1 (l ds p),
@@ -117,5 +117,5 @@ pub name-zero : (m d : List ℕ) (x : Message) (ds : List Param) → WellFormed 
 unfolding locate_of sought_in named_in
 name-zero m d x ds f p =
     let r = x.parts.optional in
-    let none : (when ltb r.from r.to then named_from m r.from 0 else Nowhere) ≡ Nowhere = ⊎_elim (λ t. rw t (zero-nowhere m r.from)) (λ t. rw t refl) (decided (ltb r.from r.to)) in
+    let none : (when ltb r.from r.to then named_from m r.from 0 else None) ≡ None = ⊎_elim (λ t. rw t (zero-nowhere m r.from)) (λ t. rw t refl) (decided (ltb r.from r.to)) in
     rw ((read-exactly m x).1 f, (is-run-exactly d).1 (ds, p), none, zero-nowhere d 0) refl

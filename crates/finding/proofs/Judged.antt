@@ -8,10 +8,9 @@ use native.Mathlib.Omega.{arith}
 use borrow.Author.Tests.{ltb-true, ltb-false}
 use lib.Dec.{ltb}
 use lib.ListN.{length}
+use Rattle.std.specs.Prelude.{Option, Some, None}
 use Rattle.octets.specs.Faults.{Judges, fault}
 use Rattle.octets.proofs.Faults.{judges-done, judges-there, judges-absent, judges-then, judges-choice}
-use Rattle.runs.specs.declared.Found.{Found}
-use Rattle.runs.specs.declared.Found.TheVariants.{At, Nowhere}
 use Rattle.runs.specs.Run.{is_run_lem, named_from}
 use Rattle.runs.specs.Params.{BadRun, Param, Params}
 use Rattle.runs.proofs.Exactly.{is-run-exactly, bad-run-exactly}
@@ -29,15 +28,15 @@ first-judges : (m d : List ℕ) (name : ℕ) (x : Message) (f : WellFormed m x) 
     → Judges (first_of m x.parts.optional d name) (fault 15 0 (NoSuch m d name) ∷ [])
 first-judges m d name x f ds p o = go (named_in m x.parts.optional name) (named_from d 0 name) refl refl
   where
-    differ : (a n : ℕ) (y : Found) → y ≡ At a n → y ≡ Nowhere → ⊥
+    differ : (a n : ℕ) (y : Option (ℕ × ℕ)) → y ≡ Some (a, n) → y ≡ None → ⊥
     differ a n y e e' = let z : ◌≡◌ {A = ℕ} 0 1 = cc in omega arith
 
-    go : (u v : Found) → named_in m x.parts.optional name ≡ u → named_from d 0 name ≡ v → Judges (in_message u (in_defaults v)) (fault 15 0 (NoSuch m d name) ∷ [])
-    go (At a n) v e e' =
+    go : (u v : Option (ℕ × ℕ)) → named_in m x.parts.optional name ≡ u → named_from d 0 name ≡ v → Judges (in_message u (in_defaults v)) (fault 15 0 (NoSuch m d name) ∷ [])
+    go (Some (a, n)) v e e' =
         judges-absent _ (λ at h. ⊎_elim o (λ l. differ a n _ e ((lacks-exactly m x f name).1 l.0)) h.1) (judges-done _)
-    go Nowhere (At a n) e e' =
+    go None (Some (a, n)) e e' =
         judges-absent _ (λ at h. ⊎_elim o (λ l. differ a n _ e' ((run-lacks-exactly d name ds p).1 l.1)) h.1) (judges-done _)
-    go Nowhere Nowhere e e' =
+    go None None e e' =
         judges-there (fault 15 0 (NoSuch m d name)) [] 0 (refl, inr ((lacks-exactly m x f name).0 e, (run-lacks-exactly d name ds p).0 e')) (λ at h. h.0)
 
 pub locate-judges : (m d : List ℕ) (name : ℕ) → Judges (locate_of m d name) (find_faults m d name)

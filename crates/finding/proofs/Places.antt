@@ -6,11 +6,10 @@ use mathlib.Core.List.{List}
 use mathlib.Core.Logic.{◌⊎◌}
 use native.Mathlib.Omega.{arith}
 use lib.Dec.{ltb}
+use Rattle.std.specs.Prelude.{Option, Some, None}
 use Rattle.octets.specs.Answer.{refused}
 use Rattle.octets.proofs.Places.{UpTo, up-to-accepted, up-to-refused, up-to-if, handed-on}
 use Rattle.parts.specs.declared.Span.{Span}
-use Rattle.runs.specs.declared.Found.{Found}
-use Rattle.runs.specs.declared.Found.TheVariants.{At, Nowhere}
 use Rattle.runs.specs.Run.{is_run_lem, named_from}
 use Rattle.isup.specs.Read.{read_of}
 use Rattle.isup.proofs.Places.{handed-within, others-placeless}
@@ -23,10 +22,10 @@ sought-placeless m run d name =
     (λ _. up-to-if _ (ltb 255 name) (λ _. up-to-refused _ 15 0 (omega arith)) (λ _. first (named_in m run name) (named_from d 0 name)))
     (λ _. up-to-refused _ 11 0 (omega arith))
   where
-    first : (u v : Found) → UpTo 0 (in_message u (in_defaults v))
-    first (At a n) v = up-to-accepted _ _
-    first Nowhere (At a n) = up-to-accepted _ _
-    first Nowhere Nowhere = up-to-refused _ 15 0 (omega arith)
+    first : (u v : Option (ℕ × ℕ)) → UpTo 0 (in_message u (in_defaults v))
+    first (Some (a, n)) v = up-to-accepted _ _
+    first None (Some (a, n)) = up-to-accepted _ _
+    first None None = up-to-refused _ 15 0 (omega arith)
 
 module _ (m d : List ℕ) (name n at : ℕ) where
   -- the reader's refusal is the search's, octet and all

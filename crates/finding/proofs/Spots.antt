@@ -8,13 +8,12 @@ use native.Mathlib.Omega.{arith}
 use lib.Dec.{ltb}
 use lib.ListN.{length}
 use denote.Ref.{Bor}
+use Rattle.std.specs.Prelude.{Option, Some, None}
 use Rattle.octets.specs.Stretch.{Stretch}
 use Rattle.octets.specs.Answer.{Answer, accepted, refused}
 use Rattle.octets.proofs.Choice.{chosen}
 use Rattle.octets.proofs.Answer.{refused-accepted, accepted-same, then-accepted, past-test}
 use Rattle.parts.specs.declared.Span.{Span}
-use Rattle.runs.specs.declared.Found.{Found}
-use Rattle.runs.specs.declared.Found.TheVariants.{At, Nowhere}
 use Rattle.runs.specs.Run.{step_at_lem, is_run_lem, seeks, named_from}
 use Rattle.runs.proofs.Runs.{named-inside}
 use Rattle.isup.specs.declared.Message.{Message}
@@ -26,7 +25,7 @@ use Rattle.finding.specs.Find.{Spot, spot, named_in, in_defaults, in_message, so
 pub record Sought (m : List ℕ) (run : Span) (d : List ℕ) (name : ℕ) (s : Spot) : Type 0 where
   pub run-whole : is_run_lem d ≡ true
   pub octet : ltb 255 name ≡ false
-  pub found : ((s.holder ≡ 0) × (named_in m run name ≡ At s.start s.len)) ⊎ ((s.holder ≡ 100) × (named_in m run name ≡ Nowhere) × (named_from d 0 name ≡ At s.start s.len))
+  pub found : ((s.holder ≡ 0) × (named_in m run name ≡ Some (s.start, s.len))) ⊎ ((s.holder ≡ 100) × (named_in m run name ≡ None) × (named_from d 0 name ≡ Some (s.start, s.len)))
 
 pub sought-says : (m : List ℕ) (run : Span) (d : List ℕ) (name : ℕ) (s : Spot) → sought_in m run d name ≡ accepted s → Sought m run d name s
 unfolding sought_in
@@ -36,21 +35,21 @@ sought-says m run d name s h =
     (λ f. absurd (refused-accepted f.1))
     (chosen (is_run_lem d) h)
   where
-    go : (x y : Found) → named_in m run name ≡ x → named_from d 0 name ≡ y → in_message x (in_defaults y) ≡ accepted s
-        → ((s.holder ≡ 0) × (named_in m run name ≡ At s.start s.len)) ⊎ ((s.holder ≡ 100) × (named_in m run name ≡ Nowhere) × (named_from d 0 name ≡ At s.start s.len))
-    go (At a n) y e e' h =
+    go : (x y : Option (ℕ × ℕ)) → named_in m run name ≡ x → named_from d 0 name ≡ y → in_message x (in_defaults y) ≡ accepted s
+        → ((s.holder ≡ 0) × (named_in m run name ≡ Some (s.start, s.len))) ⊎ ((s.holder ≡ 100) × (named_in m run name ≡ None) × (named_from d 0 name ≡ Some (s.start, s.len)))
+    go (Some (a, n)) y e e' h =
         let q : spot 0 a n ≡ s = accepted-same h in
-        inl (ap (λ (z : Spot). z.holder) (sym q), e ∙ ap (λ (z : Spot). At z.start z.len) q)
-    go Nowhere (At a n) e e' h =
+        inl (ap (λ (z : Spot). z.holder) (sym q), e ∙ ap (λ (z : Spot). Some (z.start, z.len)) q)
+    go None (Some (a, n)) e e' h =
         let q : spot 100 a n ≡ s = accepted-same h in
-        inr (ap (λ (z : Spot). z.holder) (sym q), e, e' ∙ ap (λ (z : Spot). At z.start z.len) q)
-    go Nowhere Nowhere e e' h = absurd (refused-accepted h)
+        inr (ap (λ (z : Spot). z.holder) (sym q), e, e' ∙ ap (λ (z : Spot). Some (z.start, z.len)) q)
+    go None None e e' h = absurd (refused-accepted h)
 
 pub located-says : (m d : List ℕ) (name : ℕ) (s : Spot) → locate_of m d name ≡ accepted s → (x : Message) × (read_of m ≡ accepted x) × Sought m x.parts.optional d name s
 unfolding locate_of
 located-says m d name s h = let t = then-accepted (read_of m) _ h in (t.0, t.1, sought-says m _ d name s t.2)
 
-named-in-inside : (m : List ℕ) (run : Span) (name a n : ℕ) → named_in m run name ≡ At a n → a + n ≤ length m
+named-in-inside : (m : List ℕ) (run : Span) (name a n : ℕ) → named_in m run name ≡ Some (a, n) → a + n ≤ length m
 unfolding named_in
 named-in-inside m run name a n h =
     ⊎_elim (λ t. named-inside m _ name a n t.1) (λ f. absurd (let e = f.1 in let z : ◌≡◌ {A = ℕ} 0 1 = cc in omega arith)) (chosen (ltb run.from run.to) h)

@@ -1,12 +1,10 @@
 -- Finding an optional parameter: the first match in wire order in the message, else in the
 -- customer's defaults, an optional run without its closing 0.
 -- Order: the reader's numbers, 11 for the defaults, 15.
-use Rattle.std.specs.Prelude.{ℕ, List, ltb, eqb}
+use Rattle.std.specs.Prelude.{ℕ, List, Option, Some, None, ltb, eqb}
 use Rattle.octets.specs.Choice.{when◌then◌else◌}
 use Rattle.octets.specs.Answer.{Answer, accepted, refused, ◌then◌}
 use Rattle.parts.specs.declared.Span.{Span}
-use Rattle.runs.specs.declared.Found.{Found}
-use Rattle.runs.specs.declared.Found.TheVariants.{At, Nowhere}
 use Rattle.runs.specs.Run.{is_run_lem, named_from}
 use Rattle.isup.specs.Read.{read_of}
 use Rattle.finding.specs.declared.Code.{Code}
@@ -23,18 +21,18 @@ abbrev pub spot : ℕ → ℕ → ℕ → Spot
 spot h a n = record { holder = h; start = a; len = n }
 
 -- the first parameter of that name in a message's optional run; a run with no octets has none
-unfoldable pub named_in : List ℕ → Span → ℕ → Found
-named_in m run name = when ltb run.from run.to then named_from m run.from name else Nowhere
+unfoldable pub named_in : List ℕ → Span → ℕ → Option (ℕ × ℕ)
+named_in m run name = when ltb run.from run.to then named_from m run.from name else None
 
 -- found in the defaults; 15 where they have none either
-abbrev pub in_defaults : Found → Answer Spot
-in_defaults (At a n) = accepted (spot 100 a n)
-in_defaults Nowhere = refused 15 0
+abbrev pub in_defaults : Option (ℕ × ℕ) → Answer Spot
+in_defaults (Some (a, n)) = accepted (spot 100 a n)
+in_defaults None = refused 15 0
 
 -- found in the message, else as the others say
-abbrev pub in_message : Found → Answer Spot → Answer Spot
-in_message (At a n) others = accepted (spot 0 a n)
-in_message Nowhere others = others
+abbrev pub in_message : Option (ℕ × ℕ) → Answer Spot → Answer Spot
+in_message (Some (a, n)) others = accepted (spot 0 a n)
+in_message None others = others
 
 -- the message's first parameter of that name, else the defaults'
 abbrev pub first_of : List ℕ → Span → List ℕ → ℕ → Answer Spot

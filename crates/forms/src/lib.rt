@@ -157,9 +157,7 @@ fn key(word: &[u8]) -> u64
         return 0;
     }
     let mut key: u64 = 0;
-    let mut i = word.len();
-    while 0 < i {
-        i -= 1;
+    for i in (0..word.len()).rev() {
         let digit = letter(word[i]);
         if digit == 0 {
             return 0;

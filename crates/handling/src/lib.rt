@@ -3,18 +3,18 @@
 #![tactic(auto)]
 
 ghost use Rattle.std.specs.Prelude.{◌≡◌, ◌⊎◌, ◌+◌, ◌/◌, ◌≤◌, ◌<◌, length};
+ghost use Rattle.octets.specs.Told.{told};
 ghost use Rattle.asks.specs.Asks.{Sound, mark_of};
 ghost use Rattle.rights.specs.Tables.{tables};
 ghost use Rattle.hub.specs.Rows.{rows_after};
 ghost use Rattle.hub.specs.Replies.{status_in, reply_of};
-ghost use Rattle.hub.specs.Deeds.{handling, handled_of, handled_told};
+ghost use Rattle.hub.specs.Deeds.{handling, handled_of};
 ghost use Rattle.octets.specs.Filled.{leaving};
-ghost use Rattle.octets.specs.Told.{written_told};
 ghost use Rattle.replies.specs.Replies.{sent};
 
-use asks::{Ask, Verdict};
+use asks::Ask;
 use hub::Handled;
-use octets::Written;
+use octets::Refusal;
 use rows::Act;
 
 // Whether circuit m+n is marked.
@@ -38,17 +38,14 @@ fn change_rows(states: &mut [u8], message: &[u8], ask: Ask)
         rows_after message.now ask states.old }
 {
     let act = ask.act;
-    match act {
-        Act::Query => return,
-        _ => {}
+    if let Act::Query = act {
+        return;
     }
-    let mut i = 0;
-    while i <= ask.range {
+    for i in 0..ask.range + 1 {
         let circuit = ask.circuit + i;
         if marked(message, ask.status, i) {
             states[circuit] = changes::changed(act, ask.block, states[circuit]);
         }
-        i += 1;
     }
 }
 
@@ -66,9 +63,9 @@ fn status_of(message: &[u8], status: usize, range: usize) -> &[u8]
 
 // Writes the answer to what was allowed, from the rows as they are: its octets fill the front of
 // `answer` and their count is given; or 13, and all of `answer` is kept.
-fn write_reply(states: &[u8], message: &[u8], ask: Ask, answer: &mut [u8]) -> Written
+fn write_reply(states: &[u8], message: &[u8], ask: Ask, answer: &mut [u8]) -> Result<usize, Refusal>
     requires { (length states.now ≡ 4096) × Sound message.now ask }
-    ensures { leaving (written_told result) answer.new ≡
+    ensures { leaving (told result) answer.new ≡
         sent (reply_of states.now message.now ask) answer.old }
 {
     let act = ask.act;
@@ -98,20 +95,15 @@ pub fn handle(
     sender: u32,
     message: &[u8],
     answer: &mut [u8],
-) -> Handled
-    ensures { handling (handled_told result) states.new answer.new ≡
+) -> Result<Handled, Refusal>
+    ensures { handling (told result) states.new answer.new ≡
         handled_of (tables states.old owners.now helpers.now) sender
         message.now answer.old }
 {
-    match judging::judge(states, owners, helpers, sender, message) {
-        Verdict::Refused(n, at) => Handled::Refused(n, at),
-        Verdict::Granted(ask) => match write_reply(states, message, ask, answer) {
-            Written::Refused(n, at) => Handled::Refused(n, at),
-            Written::Octets(n) => {
-                change_rows(states, message, ask);
-                let first = ask.circuit;
-                Handled::Done(n, first, first + ask.range)
-            }
-        },
-    }
+    let ask = judging::judge(states, owners, helpers, sender, message)?;
+    let count = write_reply(states, message, ask, answer)?;
+    change_rows(states, message, ask);
+    let first = ask.circuit;
+    let last = first + ask.range;
+    Ok(Handled { count, first, last })
 }

@@ -5,8 +5,6 @@ ghost use Rattle.std.specs.Prelude.{◌≡◌, ◌+◌, ◌%◌, ◌<◌};
 ghost use Rattle.day.specs.Hub.{heard_as, heard_of};
 ghost use Rattle.day.specs.Day.{day, one_more_lem, heard_in_lem};
 
-use octets::Written;
-
 // One more in a sender's counter of 16 bits, where there is one.
 fn count_one(counters: &mut [u16], sender: u8)
     ensures { counters.new ≡ one_more_lem counters.old sender }
@@ -26,10 +24,7 @@ fn hear(owners: &[u8], states: &mut [u8], sender: u8, message: &[u8]) -> bool
         heard_of owners.now states.old sender message.now }
 {
     let mut answer = [0u8; 268];
-    match acting::act(states, owners, owners, sender as u32, message, &mut answer) {
-        Written::Octets(_) => true,
-        Written::Refused(_, _) => false,
-    }
+    acting::act(states, owners, owners, sender as u32, message, &mut answer).is_ok()
 }
 
 // The hub hears a message, and it is counted.

@@ -10,6 +10,7 @@ use native.Mathlib.Nat.{add-sub_cancel_left}
 use borrow.Author.Tests.{ltb-true, ltb-false}
 use lib.Dec.{ltb}
 use lib.ListN.{length, length-append, length-drop}
+use Rattle.std.specs.Prelude.{is_some}
 use Rattle.octets.specs.Octet.{octet}
 use Rattle.octets.specs.Choice.{when◌then◌else◌}
 use Rattle.octets.specs.Answer.{Answer, accepted, refused}
@@ -24,7 +25,7 @@ use Rattle.rows.specs.Rows.{row_of}
 use Rattle.asks.specs.Asks.{ask_in_lem, mark_of, ask_of}
 use Rattle.asks.proofs.Reading.{asked_is, ask-read, ask-last}
 use Rattle.rights.specs.Tables.{Tables}
-use Rattle.rights.specs.Rights.{is_mine, has_right, may_help, first_unowned_lem, is_found}
+use Rattle.rights.specs.Rights.{is_mine, has_right, may_help, first_unowned_lem}
 use Rattle.hub.specs.Rows.{effect, rows_after}
 use Rattle.hub.specs.Replies.{reply_of}
 use Rattle.rights.specs.Permits.{is_unhelpable}
@@ -171,7 +172,7 @@ module _ (T : Tables) (sender : ℕ) (m buffer : List ℕ) where
   pub names-mine : (a : Ask) → Allowed T sender m (length buffer) a → may_help a.act a.block ≡ false → (c : ℕ) → Named a c → Mine T.owners sender c
   unfolding is_unhelpable
   names-mine a g h c n =
-      let u : is_found (first_unowned_lem T.owners sender a.circuit (a.range + 1)) ≡ false = ap (λ (b : Bool). when b then false else is_found (first_unowned_lem T.owners sender a.circuit (a.range + 1))) (sym h) ∙ g.helps in
+      let u : is_some (first_unowned_lem T.owners sender a.circuit (a.range + 1)) ≡ false = ap (λ (b : Bool). when b then false else is_some (first_unowned_lem T.owners sender a.circuit (a.range + 1))) (sym h) ∙ g.helps in
       mine-is T.owners sender c (found_none (is_mine T.owners sender) a.circuit (a.range + 1) u c n.0 (omega (arith, n.1)))
 
   -- a row on which the sender has no right stays

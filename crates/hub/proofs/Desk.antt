@@ -8,21 +8,21 @@ use native.Mathlib.Omega.{arith}
 use borrow.Author.Tests.{eq-eqb, ne_eqb, lt-ltb, le-ltb, ltb-true, ltb-false, eqb-true, eqb-false}
 use lib.Dec.{ltb, eqb}
 use lib.ListN.{length, take, set as put, length-drop}
+use Rattle.std.specs.Prelude.{Result, Ok, Err}
 use Rattle.octets.specs.Octet.{octet}
 use Rattle.octets.specs.Choice.{when◌then◌else◌}
 use Rattle.octets.specs.Answer.{Answer, accepted, refused, ◌then◌}
 use Rattle.octets.specs.Faults.{First, None, Judges, fault}
 use Rattle.octets.specs.Filled.{Done, done, leaving, filled}
-use Rattle.octets.specs.Told.{written_told}
-use Rattle.octets.specs.declared.Written.{Written}
-use Rattle.octets.specs.declared.Written.TheVariants.{Octets, Refused as Withheld}
+use Rattle.octets.specs.Told.{refusal_number, refusal_place, told}
+use Rattle.octets.specs.declared.Refusal.{Refusal}
 use Rattle.octets.proofs.Answer.{refused-accepted, accepted-same}
 use Rattle.octets.proofs.Applied.{applied-none, applied-more, length-applied, applied-below, applied-past, applied-in}
 use Rattle.octets.proofs.Choice.{decided, true-false}
 use Rattle.octets.proofs.Faults.{judges-done, judges-there, judges-absent, judges-if, judges-choice}
 use Rattle.octets.proofs.Filled.{take-filled}
 use Rattle.octets.proofs.Places.{UpTo, up-to-accepted, up-to-refused, up-to-if}
-use Rattle.octets.proofs.Told.{written-told-injective}
+use Rattle.octets.proofs.Told.{told-injective}
 use Rattle.isup.specs.Types.{BLO, UBL}
 use Rattle.rows.specs.Rows.{is_legal, Legal, local_row}
 use Rattle.rows.specs.Rules.{LocallyBlocked}
@@ -95,23 +95,23 @@ module _ (states : List ℕ) (circuit : ℕ) (set : Bool) (buffer : List ℕ) wh
   unfolding desk_of
   desk-refuses-exactly n at =
       let j = (desk-grant-judges states circuit (length buffer)).refuses n at in
-      let w = told (desk_grant states circuit (length buffer)) in
+      let w = tells (desk_grant states circuit (length buffer)) in
       (λ e. j.0 (w.0 e), λ f. w.1 (j.1 f))
     where
-      told : (g : Answer ℕ) → ((desk_carried states set buffer g).answer ≡ refused n at) ↔ (g ≡ refused n at)
-      told (accepted c) = (λ e. absurd (refused-accepted (sym e)), λ e. absurd (refused-accepted (sym e)))
-      told (refused k q) = (λ e. e, λ e. e)
+      tells : (g : Answer ℕ) → ((desk_carried states set buffer g).answer ≡ refused n at) ↔ (g ≡ refused n at)
+      tells (accepted c) = (λ e. absurd (refused-accepted (sym e)), λ e. absurd (refused-accepted (sym e)))
+      tells (refused k q) = (λ e. e, λ e. e)
 
   pub desk-accepts-exactly : ((n : ℕ) × ((desk_of states circuit set buffer).answer ≡ accepted n)) ↔ None (desk_faults states circuit (length buffer))
   unfolding desk_of
   desk-accepts-exactly =
       let j = desk-grant-judges states circuit (length buffer) in
-      let w = told (desk_grant states circuit (length buffer)) in
+      let w = tells (desk_grant states circuit (length buffer)) in
       (λ e. j.accepts.0 (w.0 e), λ h. w.1 (j.accepts.1 h))
     where
-      told : (g : Answer ℕ) → ((n : ℕ) × ((desk_carried states set buffer g).answer ≡ accepted n)) ↔ ((c : ℕ) × (g ≡ accepted c))
-      told (accepted c) = (λ e. (c, refl), λ h. (length (notice_of c set), refl))
-      told (refused k at) = (λ e. absurd (refused-accepted e.1), λ h. absurd (refused-accepted h.1))
+      tells : (g : Answer ℕ) → ((n : ℕ) × ((desk_carried states set buffer g).answer ≡ accepted n)) ↔ ((c : ℕ) × (g ≡ accepted c))
+      tells (accepted c) = (λ e. (c, refl), λ h. (length (notice_of c set), refl))
+      tells (refused k at) = (λ e. absurd (refused-accepted e.1), λ h. absurd (refused-accepted h.1))
 
   -- none of its refusals is about an octet
   pub desk-placeless : (n at : ℕ) → (desk_of states circuit set buffer).answer ≡ refused n at → at ≡ 0
@@ -318,16 +318,16 @@ module _ (states : List ℕ) (circuit : ℕ) (set : Bool) (buffer : List ℕ) wh
         unfolding desk_of desk_grant
         roomed = rw (eq-eqb _ _ s, le-ltb _ _ k, l)
 
-        module _ (r : Written) (left : List ℕ) (e : leaving (written_told r) left ≡ sent (notice_of circuit set) buffer) where
-          pub desk-short : (n at : ℕ) → r ≡ Withheld n at → after (refused n at) states left ≡ desk_of states circuit set buffer
-          desk-short n at q = go (ltb (length buffer) 3) (ap (λ (y : Written). leaving (written_told y) left) (sym q) ∙ e) ∙ roomed
+        module _ (r : Result ℕ Refusal) (left : List ℕ) (e : leaving (told r) left ≡ sent (notice_of circuit set) buffer) where
+          pub desk-short : (why : Refusal) → r ≡ Err why → after (refused (refusal_number why) (refusal_place why)) states left ≡ desk_of states circuit set buffer
+          desk-short why q = go (refusal_number why) (refusal_place why) (ltb (length buffer) 3) (ap (λ (y : Result ℕ Refusal). leaving (told y) left) (sym q) ∙ e) ∙ roomed
             where
-              go : (t : Bool) → leaving (refused n at) left ≡ done buffer (when t then refused 13 0 else accepted (length (notice_of circuit set), notice_of circuit set)) → after (refused n at) states left ≡ desk_carried states set buffer (when t then refused 13 0 else accepted circuit)
-              go true h = ap (λ (d : Done ℕ). after d.answer states d.left) h
-              go false h = absurd (refused-accepted (ap (λ (d : Done ℕ). d.answer) h))
+              go : (n at : ℕ) (t : Bool) → leaving (refused n at) left ≡ done buffer (when t then refused 13 0 else accepted (length (notice_of circuit set), notice_of circuit set)) → after (refused n at) states left ≡ desk_carried states set buffer (when t then refused 13 0 else accepted circuit)
+              go n at true h = ap (λ (d : Done ℕ). after d.answer states d.left) h
+              go n at false h = absurd (refused-accepted (ap (λ (d : Done ℕ). d.answer) h))
 
-          pub desk-done : (n v : ℕ) → r ≡ Octets n → v ≡ local_row set (octet states circuit) → after (accepted n) (put states circuit v) left ≡ desk_of states circuit set buffer
-          desk-done n v q w = go (ltb (length buffer) 3) (ap (λ (y : Written). leaving (written_told y) left) (sym q) ∙ e) ∙ roomed
+          pub desk-done : (n v : ℕ) → r ≡ Ok n → v ≡ local_row set (octet states circuit) → after (accepted n) (put states circuit v) left ≡ desk_of states circuit set buffer
+          desk-done n v q w = go (ltb (length buffer) 3) (ap (λ (y : Result ℕ Refusal). leaving (told y) left) (sym q) ∙ e) ∙ roomed
             where
               changed : put states circuit v ≡ rows_blocked set circuit states
               changed = sym (applied-more (λ c row. local_row set row) circuit 1 (circuit + 1) 0 v states (omega arith) (omega arith) w ∙ applied-none (λ c row. local_row set row) (circuit + 1) 0 (put states circuit v) refl)
@@ -338,13 +338,13 @@ module _ (states : List ℕ) (circuit : ℕ) (set : Bool) (buffer : List ℕ) wh
 
 -- any two answers that the contract of `desk_call` allows are equal, with the
 -- states and the answer buffer afterwards
-pub desk-determined : (states : List ℕ) (circuit : ℕ) (set : Bool) (buffer : List ℕ) (r s : Written) (states₁ states₂ buffer₁ buffer₂ : List ℕ)
-    → after (written_told r) states₁ buffer₁ ≡ desk_of states circuit set buffer
-    → after (written_told s) states₂ buffer₂ ≡ desk_of states circuit set buffer
+pub desk-determined : (states : List ℕ) (circuit : ℕ) (set : Bool) (buffer : List ℕ) (r s : Result ℕ Refusal) (states₁ states₂ buffer₁ buffer₂ : List ℕ)
+    → after (told r) states₁ buffer₁ ≡ desk_of states circuit set buffer
+    → after (told s) states₂ buffer₂ ≡ desk_of states circuit set buffer
     → (r ≡ s) × (states₁ ≡ states₂) × (buffer₁ ≡ buffer₂)
 desk-determined states circuit set buffer r s states₁ states₂ buffer₁ buffer₂ p q =
     let e = p ∙ sym q in (
-      written-told-injective r s (ap (λ (x : After). x.answer) e),
+      told-injective r s (ap (λ (x : After). x.answer) e),
       ap (λ (x : After). x.states) e,
       ap (λ (x : After). x.buffer) e,
     )

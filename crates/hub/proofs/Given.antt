@@ -6,24 +6,21 @@ use mathlib.Core.List.{List}
 use borrow.Author.Tests.{eq-eqb, eqb-true, ltb-false}
 use lib.Dec.{ltb, eqb}
 use lib.ListN.{length}
+use Rattle.std.specs.Prelude.{Result, Ok, Err, is_some}
 use Rattle.octets.specs.Octet.{AllOctets}
 use Rattle.octets.specs.Choice.{when◌then◌else◌}
 use Rattle.octets.specs.Answer.{Answer, accepted, refused, ◌then◌}
 use Rattle.octets.specs.Filled.{Done, done, leaving}
-use Rattle.octets.specs.Told.{written_told}
-use Rattle.octets.specs.declared.Written.{Written}
-use Rattle.octets.specs.declared.Written.TheVariants.{Octets, Refused as Withheld}
+use Rattle.octets.specs.Told.{refusal_number, refusal_place, told}
+use Rattle.octets.specs.declared.Refusal.{Refusal}
 use Rattle.octets.proofs.Answer.{refused-accepted, accepted-same, past-test, then-accepted}
 use Rattle.octets.proofs.Choice.{true-false}
 use Rattle.asks.specs.declared.Ask.{Ask}
-use Rattle.asks.specs.declared.Verdict.{Verdict}
-use Rattle.asks.specs.declared.Verdict.TheVariants.{Granted, Refused}
 use Rattle.asks.specs.Asks.{ask_of, Sound}
-use Rattle.asks.specs.Told.{verdict_told}
 use Rattle.asks.proofs.Reading.{ask-sound}
 use Rattle.replies.specs.Replies.{sent}
 use Rattle.rights.specs.Tables.{Tables, sized}
-use Rattle.rights.specs.Rights.{first_foreign_lem, first_illegal_lem, is_found}
+use Rattle.rights.specs.Rights.{first_foreign_lem, first_illegal_lem}
 use Rattle.hub.specs.Rows.{rows_after}
 use Rattle.hub.specs.Replies.{reply_of}
 use Rattle.rights.specs.Permits.{is_taken, is_unhelpable, permitted_of}
@@ -40,14 +37,14 @@ module _ (T : Tables) (sender : ℕ) (m : List ℕ) (p : length T.states ≡ 409
   unfolding judged_of
   judged-sized = rw (eq-eqb _ _ p, eq-eqb _ _ q, eq-eqb _ _ h)
 
-  module _ (v : Verdict) (w : verdict_told v ≡ ask_of m) where
-    pub judged-refused : (n at : ℕ) → v ≡ Refused n at → refused n at ≡ judged_of T sender m
-    judged-refused n at f =
-        sym (judged-sized ∙ ap (λ z. z then permitted_of T sender) (sym w ∙ ap verdict_told f))
+  module _ (v : Result Ask Refusal) (w : told v ≡ ask_of m) where
+    pub judged-refused : (why : Refusal) → v ≡ Err why → refused (refusal_number why) (refusal_place why) ≡ judged_of T sender m
+    judged-refused why f =
+        sym (judged-sized ∙ ap (λ z. z then permitted_of T sender) (sym w ∙ ap told f))
 
-    pub judged-asked : (a : Ask) → v ≡ Granted a → permitted_of T sender a ≡ judged_of T sender m
+    pub judged-asked : (a : Ask) → v ≡ Ok a → permitted_of T sender a ≡ judged_of T sender m
     judged-asked a f =
-        sym (judged-sized ∙ ap (λ z. z then permitted_of T sender) (sym w ∙ ap verdict_told f))
+        sym (judged-sized ∙ ap (λ z. z then permitted_of T sender) (sym w ∙ ap told f))
 
 -- what is granted is what is judged, with room for its answer
 pub grant-judged : (T : Tables) (sender : ℕ) (m : List ℕ) (room : ℕ) → grant_of T sender m room ≡ (judged_of T sender m then roomed T m room)
@@ -96,9 +93,9 @@ pub record Allowed (T : Tables) (sender : ℕ) (m : List ℕ) (room : ℕ) (a : 
   pub owners-sized : length T.owners ≡ 4096
   pub helpers-sized : length T.helpers ≡ 4096
   pub asks : ask_of m ≡ accepted a
-  pub right : is_found (first_foreign_lem T.owners T.helpers sender a.circuit (a.range + 1)) ≡ false
+  pub right : is_some (first_foreign_lem T.owners T.helpers sender a.circuit (a.range + 1)) ≡ false
   pub helps : is_unhelpable T sender a ≡ false
-  pub legal : is_found (first_illegal_lem T.states a.circuit (a.range + 1)) ≡ false
+  pub legal : is_some (first_illegal_lem T.states a.circuit (a.range + 1)) ≡ false
   pub free : is_taken T.states a.act a.circuit ≡ false
   pub fits : length (reply_of T.states m a) ≤ room
 
@@ -121,40 +118,40 @@ granted T sender m room a e =
     })
 
 -- ---- a call
-module _ (T : Tables) (sender : ℕ) (m buffer : List ℕ) (v : Verdict) (w : verdict_told v ≡ judged_of T sender m) where
+module _ (T : Tables) (sender : ℕ) (m buffer : List ℕ) (v : Result Ask Refusal) (w : told v ≡ judged_of T sender m) where
   -- what is carried out of what was judged
-  carried : {x : Answer Ask} → verdict_told v ≡ x → carried_out T m buffer (x then roomed T m (length buffer)) ≡ act_of T sender m buffer
+  carried : {x : Answer Ask} → told v ≡ x → carried_out T m buffer (x then roomed T m (length buffer)) ≡ act_of T sender m buffer
   unfolding act_of
   carried e = ap (carried_out T m buffer) (ap (λ z. z then roomed T m (length buffer)) (sym e ∙ w) ∙ sym (grant-judged T sender m (length buffer)))
 
-  pub act-refused : (n at : ℕ) → v ≡ Refused n at → after (refused n at) T.states buffer ≡ act_of T sender m buffer
-  act-refused n at f = carried (ap verdict_told f)
+  pub act-refused : (why : Refusal) → v ≡ Err why → after (refused (refusal_number why) (refusal_place why)) T.states buffer ≡ act_of T sender m buffer
+  act-refused why f = carried (ap told f)
 
-  module _ (a : Ask) (f : v ≡ Granted a) where
+  module _ (a : Ask) (f : v ≡ Ok a) where
     pub act-fair : Fair T sender m a
-    act-fair = fair T sender m a (sym w ∙ ap verdict_told f)
+    act-fair = fair T sender m a (sym w ∙ ap told f)
 
     pub act-sound : AllOctets m → Sound m a
     act-sound o = ask-sound m a o act-fair.asks
 
-    module _ (r : Written) (left : List ℕ) (e : leaving (written_told r) left ≡ sent (reply_of T.states m a) buffer) where
+    module _ (r : Result ℕ Refusal) (left : List ℕ) (e : leaving (told r) left ≡ sent (reply_of T.states m a) buffer) where
       -- there was no room for the answer
-      pub act-short : (n at : ℕ) → r ≡ Withheld n at → after (refused n at) T.states left ≡ act_of T sender m buffer
-      act-short n at q = go (ltb (length buffer) (length (reply_of T.states m a))) (ap (λ (y : Written). leaving (written_told y) left) (sym q) ∙ e) ∙ carried (ap verdict_told f)
+      pub act-short : (why : Refusal) → r ≡ Err why → after (refused (refusal_number why) (refusal_place why)) T.states left ≡ act_of T sender m buffer
+      act-short why q = go (refusal_number why) (refusal_place why) (ltb (length buffer) (length (reply_of T.states m a))) (ap (λ (y : Result ℕ Refusal). leaving (told y) left) (sym q) ∙ e) ∙ carried (ap told f)
         where
-          go : (t : Bool) → leaving (refused n at) left ≡ done buffer (when t then refused 13 0 else accepted (length (reply_of T.states m a), reply_of T.states m a)) → after (refused n at) T.states left ≡ carried_out T m buffer (when t then refused 13 0 else accepted a)
-          go true h = ap (λ (d : Done ℕ). after d.answer T.states d.left) h
-          go false h = absurd (refused-accepted (ap (λ (d : Done ℕ). d.answer) h))
+          go : (n at : ℕ) (t : Bool) → leaving (refused n at) left ≡ done buffer (when t then refused 13 0 else accepted (length (reply_of T.states m a), reply_of T.states m a)) → after (refused n at) T.states left ≡ carried_out T m buffer (when t then refused 13 0 else accepted a)
+          go n at true h = ap (λ (d : Done ℕ). after d.answer T.states d.left) h
+          go n at false h = absurd (refused-accepted (ap (λ (d : Done ℕ). d.answer) h))
 
       -- there was, and the rows changed
-      pub act-done : (n : ℕ) (states' : List ℕ) → r ≡ Octets n → states' ≡ rows_after m a T.states → after (accepted n) states' left ≡ act_of T sender m buffer
-      act-done n states' q p = go (ltb (length buffer) (length (reply_of T.states m a))) (ap (λ (y : Written). leaving (written_told y) left) (sym q) ∙ e) ∙ carried (ap verdict_told f)
+      pub act-done : (n : ℕ) (states' : List ℕ) → r ≡ Ok n → states' ≡ rows_after m a T.states → after (accepted n) states' left ≡ act_of T sender m buffer
+      act-done n states' q p = go (ltb (length buffer) (length (reply_of T.states m a))) (ap (λ (y : Result ℕ Refusal). leaving (told y) left) (sym q) ∙ e) ∙ carried (ap told f)
         where
           go : (t : Bool) → leaving (accepted n) left ≡ done buffer (when t then refused 13 0 else accepted (length (reply_of T.states m a), reply_of T.states m a)) → after (accepted n) states' left ≡ carried_out T m buffer (when t then refused 13 0 else accepted a)
           go true h = absurd (refused-accepted (sym (ap (λ (d : Done ℕ). d.answer) h)))
           go false h = λ i. after (h i).answer (p i) (h i).left
 
 -- 19 is the first of what is looked at
-pub allow-foreign : (T : Tables) (sender : ℕ) (m : List ℕ) (room : ℕ) (a : Ask) → is_found (first_foreign_lem T.owners T.helpers sender a.circuit (a.range + 1)) ≡ true → refused 19 0 ≡ allowed_of T sender m room a
+pub allow-foreign : (T : Tables) (sender : ℕ) (m : List ℕ) (room : ℕ) (a : Ask) → is_some (first_foreign_lem T.owners T.helpers sender a.circuit (a.range + 1)) ≡ true → refused 19 0 ≡ allowed_of T sender m room a
 unfolding allowed_of permitted_of
 allow-foreign T sender m room a e = rw e

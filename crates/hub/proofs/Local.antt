@@ -7,6 +7,7 @@ use mathlib.Core.List.{List}
 use native.Mathlib.Omega.{arith}
 use lib.Dec.{ltb, eqb}
 use lib.ListN.{length}
+use Rattle.std.specs.Prelude.{is_some}
 use Rattle.octets.specs.Octet.{octet}
 use Rattle.octets.specs.Choice.{when◌then◌else◌}
 use Rattle.octets.specs.Answer.{Answer, accepted, refused}
@@ -19,7 +20,7 @@ use Rattle.asks.specs.declared.Ask.{Ask}
 use Rattle.replies.specs.Replies.{reply_length}
 use Rattle.rights.specs.Tables.{Tables}
 use Rattle.asks.specs.Asks.{ask_of}
-use Rattle.rights.specs.Rights.{is_mine, has_right, may_help, first_foreign_lem, first_unowned_lem, first_illegal_lem, is_found}
+use Rattle.rights.specs.Rights.{is_mine, has_right, may_help, first_foreign_lem, first_unowned_lem, first_illegal_lem}
 use Rattle.hub.specs.Rows.{effect}
 use Rattle.hub.specs.Replies.{reply_of}
 use Rattle.rights.specs.Permits.{is_taken, is_unhelpable, permitted_of}
@@ -72,9 +73,9 @@ module _ (T U : Tables) (sender : ℕ) (m : List ℕ) where
       taken-same T.states U.states a.act a.circuit (h a.circuit (omega arith, omega arith)).0 in
       then_same (permitted_of T sender a)
       (λ i.
-      when is_found (f i) then refused 19 0
-      else when (when may_help a.act a.block then false else is_found (u i)) then refused 22 0
-      else when is_found (l i) then refused 20 0
+      when is_some (f i) then refused 19 0
+      else when (when may_help a.act a.block then false else is_some (u i)) then refused 22 0
+      else when is_some (l i) then refused 20 0
       else when t i then refused 21 0
       else accepted a)
       (λ b e. let s : a ≡ b = (permitted T sender a b e).0 in roomed-same room b (subst (λ (y : Ask). octet T.states y.circuit ≡ octet U.states y.circuit) s (h a.circuit (omega arith, omega arith)).0))

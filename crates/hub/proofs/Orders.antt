@@ -9,6 +9,7 @@ use borrow.Author.Tests.{eqb-true, eqb-false, eq-eqb, ne_eqb, lt-ltb, le-ltb, lt
 use lib.Dec.{eqb, ltb}
 use lib.ListN.{length}
 use lib.Seq.{ext_get_or}
+use Rattle.std.specs.Prelude.{is_some}
 use Rattle.octets.specs.Octet.{octet}
 use Rattle.octets.specs.Choice.{when◌then◌else◌}
 use Rattle.octets.specs.Answer.{Answer, accepted, refused, ◌then◌}
@@ -23,7 +24,7 @@ use Rattle.asks.proofs.Reading.{ask-last}
 use Rattle.arrival.specs.Calls.{Apart, Has, Separate, Merged, state_after, answers_of, answers, calls_of}
 use Rattle.arrival.proofs.Isolation.{own-has, own-answers, own-rows, others-stay, some, merges-size-alike, state-so-far, answer-so-far, merges-answer-alike, merges-end-alike, merge-answers-alone}
 use Rattle.rights.specs.Tables.{Tables, tables, sized}
-use Rattle.rights.specs.Rights.{has_right, first_foreign_lem, is_found}
+use Rattle.rights.specs.Rights.{has_right, first_foreign_lem}
 use Rattle.hub.specs.Rows.{effect}
 use Rattle.hub.specs.Replies.{reply_of}
 use Rattle.hub.specs.Acts.{allowed_of, grant_of, carried_out, act_of}
@@ -98,9 +99,9 @@ module _ (owners helpers : List ℕ) where
 -- ---- what a call is granted depends on its sender's rows alone
 module _ (owners helpers : List ℕ) (sender : ℕ) (m : List ℕ) (s t : List ℕ) (long : length s ≡ length t) (agree : (i : ℕ) → holds_of owners helpers sender i ≡ true → octet s i ≡ octet t i) where
   allowed-alike : (room : ℕ) (a : Ask) → a.circuit + a.range ≤ 4095 → allowed_of (tables s owners helpers) sender m room a ≡ allowed_of (tables t owners helpers) sender m room a
-  allowed-alike room a last = go (is_found (first_foreign_lem owners helpers sender a.circuit (a.range + 1))) refl
+  allowed-alike room a last = go (is_some (first_foreign_lem owners helpers sender a.circuit (a.range + 1))) refl
     where
-      go : (b : Bool) → is_found (first_foreign_lem owners helpers sender a.circuit (a.range + 1)) ≡ b → allowed_of (tables s owners helpers) sender m room a ≡ allowed_of (tables t owners helpers) sender m room a
+      go : (b : Bool) → is_some (first_foreign_lem owners helpers sender a.circuit (a.range + 1)) ≡ b → allowed_of (tables s owners helpers) sender m room a ≡ allowed_of (tables t owners helpers) sender m room a
       go true e = sym (allow-foreign (tables s owners helpers) sender m room a e) ∙ allow-foreign (tables t owners helpers) sender m room a e
       go false e =
           allowed_same (tables s owners helpers) (tables t owners helpers) sender m room a

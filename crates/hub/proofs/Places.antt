@@ -8,6 +8,7 @@ use mathlib.Core.Logic.{◌⊎◌, inr, ⊎_elim}
 use native.Mathlib.Omega.{arith}
 use lib.Dec.{ltb}
 use lib.ListN.{length}
+use Rattle.std.specs.Prelude.{is_some}
 use Rattle.octets.specs.Choice.{when◌then◌else◌}
 use Rattle.octets.specs.Answer.{refused, ◌then◌}
 use Rattle.octets.proofs.Places.{UpTo, up-to-accepted, up-to-refused, up-to-if, up-to-then, handed-on}
@@ -17,7 +18,7 @@ use Rattle.asks.specs.declared.Ask.{Ask}
 use Rattle.asks.specs.Asks.{ask_of}
 use Rattle.asks.proofs.Places.{ask-hands-on}
 use Rattle.rights.specs.Tables.{Tables, sized}
-use Rattle.rights.specs.Rights.{first_foreign_lem, first_illegal_lem, is_found}
+use Rattle.rights.specs.Rights.{first_foreign_lem, first_illegal_lem}
 use Rattle.hub.specs.Replies.{reply_of}
 use Rattle.rights.specs.Permits.{is_taken, is_unhelpable, permitted_of}
 use Rattle.hub.specs.Acts.{roomed, allowed_of, grant_of, after, act_of}
@@ -28,9 +29,9 @@ allowed-placeless : (T : Tables) (sender : ℕ) (m : List ℕ) (room : ℕ) (a :
 unfolding allowed_of permitted_of
 allowed-placeless T sender m room a =
     up-to-then _ (permitted_of T sender a) (roomed T m room)
-    (up-to-if _ (is_found (first_foreign_lem T.owners T.helpers sender a.circuit (a.range + 1))) (λ _. up-to-refused _ 19 0 (omega arith))
+    (up-to-if _ (is_some (first_foreign_lem T.owners T.helpers sender a.circuit (a.range + 1))) (λ _. up-to-refused _ 19 0 (omega arith))
     (λ _. up-to-if _ (is_unhelpable T sender a) (λ _. up-to-refused _ 22 0 (omega arith))
-    (λ _. up-to-if _ (is_found (first_illegal_lem T.states a.circuit (a.range + 1))) (λ _. up-to-refused _ 20 0 (omega arith))
+    (λ _. up-to-if _ (is_some (first_illegal_lem T.states a.circuit (a.range + 1))) (λ _. up-to-refused _ 20 0 (omega arith))
     (λ _. up-to-if _ (is_taken T.states a.act a.circuit) (λ _. up-to-refused _ 21 0 (omega arith)) (λ _. up-to-accepted _ _)))))
     (λ b e. up-to-if _ (ltb room (length (reply_of T.states m b))) (λ _. up-to-refused _ 13 0 (omega arith)) (λ _. up-to-accepted _ _))
 

@@ -9,6 +9,7 @@ use native.Mathlib.Omega.{arith}
 use borrow.Author.Tests.{eqb-true, eq-eqb}
 use lib.Dec.{ltb, eqb}
 use lib.ListN.{length, replicate, length-replicate, get_or-replicate}
+use Rattle.std.specs.Prelude.{is_some}
 use Rattle.octets.specs.Octet.{octet}
 use Rattle.octets.specs.Choice.{when◌then◌else◌}
 use Rattle.octets.specs.Answer.{Answer, accepted, refused, ◌then◌}
@@ -27,7 +28,7 @@ use Rattle.asks.specs.Asks.{one_ask, range_ask, broken_range, asked_in, ask_of, 
 use Rattle.arrival.specs.Calls.{Calls, Apart, Merged, answers_of, calls_of}
 use Rattle.arrival.proofs.Isolation.{merged-so}
 use Rattle.rights.specs.Tables.{Tables, tables, sized}
-use Rattle.rights.specs.Rights.{may_help, first_not, first_foreign_lem, first_illegal_lem, is_found}
+use Rattle.rights.specs.Rights.{may_help, first_not, first_foreign_lem, first_illegal_lem}
 use Rattle.octets.specs.Applied.{applied}
 use Rattle.hub.specs.Rows.{rows_after}
 use Rattle.hub.specs.Replies.{status_in, reply_of}
@@ -111,8 +112,8 @@ touches-nothing-refuted e =
 -- ---- 20 looked at before 19
 abbrev legal_first : Tables → ℕ → List ℕ → ℕ → Ask → Answer Ask
 legal_first T sender m room a =
-    when is_found (first_illegal_lem T.states a.circuit (a.range + 1)) then refused 20 0
-    else when is_found (first_foreign_lem T.owners T.helpers sender a.circuit (a.range + 1)) then refused 19 0
+    when is_some (first_illegal_lem T.states a.circuit (a.range + 1)) then refused 20 0
+    else when is_some (first_foreign_lem T.owners T.helpers sender a.circuit (a.range + 1)) then refused 19 0
     else when is_taken T.states a.act a.circuit then refused 21 0
     else when ltb room (length (reply_of T.states m a)) then refused 13 0
     else accepted a
@@ -132,7 +133,7 @@ illegal-before-foreign e =
 -- ---- 20 not looked at
 abbrev unlooked : Tables → ℕ → List ℕ → ℕ → Ask → Answer Ask
 unlooked T sender m room a =
-    when is_found (first_foreign_lem T.owners T.helpers sender a.circuit (a.range + 1)) then refused 19 0
+    when is_some (first_foreign_lem T.owners T.helpers sender a.circuit (a.range + 1)) then refused 19 0
     else when is_taken T.states a.act a.circuit then refused 21 0
     else when ltb room (length (reply_of T.states m a)) then refused 13 0
     else accepted a
@@ -281,7 +282,7 @@ depends-on-the-merge = (
 abbrev helped_first : Tables → ℕ → List ℕ → ℕ → Ask → Answer Ask
 helped_first T sender m room a =
     when is_unhelpable T sender a then refused 22 0
-    else when is_found (first_foreign_lem T.owners T.helpers sender a.circuit (a.range + 1)) then refused 19 0
+    else when is_some (first_foreign_lem T.owners T.helpers sender a.circuit (a.range + 1)) then refused 19 0
     else allowed_of T sender m room a
 
 -- IAM on a stranger's circuit: the wrong order speaks of a help that the sender
@@ -364,8 +365,8 @@ helpers-merge-matters = (
 -- ---- 20 looked at before 22
 abbrev legal_before_helped : Tables → ℕ → List ℕ → ℕ → Ask → Answer Ask
 legal_before_helped T sender m room a =
-    when is_found (first_foreign_lem T.owners T.helpers sender a.circuit (a.range + 1)) then refused 19 0
-    else when is_found (first_illegal_lem T.states a.circuit (a.range + 1)) then refused 20 0
+    when is_some (first_foreign_lem T.owners T.helpers sender a.circuit (a.range + 1)) then refused 19 0
+    else when is_some (first_illegal_lem T.states a.circuit (a.range + 1)) then refused 20 0
     else when is_unhelpable T sender a then refused 22 0
     else allowed_of T sender m room a
 

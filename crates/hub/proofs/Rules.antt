@@ -9,6 +9,7 @@ use native.Mathlib.Nat.{add-zero, zero-add}
 use borrow.Author.Tests.{eq-eqb, ne_eqb, eqb-true, ltb-true, ltb-false, not-false}
 use lib.Dec.{eqb, ltb}
 use lib.ListN.{length}
+use Rattle.std.specs.Prelude.{is_some}
 use Rattle.octets.specs.Choice.{when◌then◌else◌}
 use Rattle.octets.specs.Octet.{octet, octets}
 use Rattle.octets.specs.Filled.{filled}
@@ -34,7 +35,7 @@ use Rattle.octets.specs.Sum.{total}
 use Rattle.asks.proofs.Marks.{marks-counted}
 use Rattle.asks.proofs.Reading.{Asked, ask-as, range-rule, WholeGroup, whole-group}
 use Rattle.rights.specs.Tables.{Tables}
-use Rattle.rights.specs.Rights.{may_help, first_illegal_lem, is_found}
+use Rattle.rights.specs.Rights.{may_help, first_illegal_lem}
 use Rattle.rights.specs.Names.{Mine, HasRight}
 use Rattle.rights.specs.Faults.{NamedBy, Helpable}
 use Rattle.replies.specs.Replies.{status_given, status_locked, states_from, range_and_status, completion}
@@ -278,7 +279,7 @@ module _ (T : Tables) (sender : ℕ) (m buffer : List ℕ) (x : Message) (n : �
       let group = octets T.states x.circuit (r + 1) in
       let shown : States T.states x.circuit r (states_from group 0 (r + 1)) = states-in T.states x.circuit r _ (states-shown group r) in
       let legal : (i : ℕ) → i ≤ r → is_legal (octet T.states (x.circuit + i)) ≡ true =
-      λ i h. found_none (λ c. is_legal (octet T.states c)) x.circuit (r + 1) (subst (λ (b : Ask). is_found (first_illegal_lem T.states b.circuit (b.range + 1)) ≡ false) q called.allowed.legal) (x.circuit + i) (omega arith) (omega arith) in (
+      λ i h. found_none (λ c. is_legal (octet T.states c)) x.circuit (r + 1) (subst (λ (b : Ask). is_some (first_illegal_lem T.states b.circuit (b.range + 1)) ≡ false) q called.allowed.legal) (x.circuit + i) (omega arith) (omega arith) in (
         called.rows ∙ rows-queried m called.ask T.states (ap (λ (b : Ask). b.act) q),
         (
           states_from group 0 (r + 1),

@@ -7,6 +7,7 @@ use mathlib.Core.List.{List}
 use lib.Dec.{eqb}
 use lib.ListN.{length, replicate, length-replicate}
 use borrow.Author.Tests.{eqb-false, ne_eqb}
+use Rattle.std.specs.Prelude.{is_some}
 use Rattle.octets.specs.Octet.{octet}
 use Rattle.octets.specs.Choice.{when◌then◌else◌}
 use Rattle.octets.specs.Answer.{Answer, accepted, refused, ◌then◌}
@@ -14,7 +15,7 @@ use Rattle.octets.proofs.Octet.{zero-at}
 use Rattle.asks.specs.declared.Ask.{Ask}
 use Rattle.asks.specs.Asks.{ask_of}
 use Rattle.rights.specs.Tables.{tables, sized}
-use Rattle.rights.specs.Rights.{is_mine, has_right, first_not, first_illegal_lem, is_found}
+use Rattle.rights.specs.Rights.{is_mine, has_right, first_not, first_illegal_lem}
 use Rattle.rights.specs.Permits.{is_taken, is_unhelpable, permitted_of}
 use Rattle.hub.specs.Acts.{roomed, allowed_of, grant_of, carried_out, act_of}
 
@@ -28,9 +29,9 @@ rights-count s o h k q l e m b = ap (carried_out (tables s o h) m b) granted ∙
     permitted a =
         ap
         (λ (good : ℕ → Bool).
-        when is_found (first_not good a.circuit (a.range + 1)) then refused 19 0
+        when is_some (first_not good a.circuit (a.range + 1)) then refused 19 0
         else when is_unhelpable (tables s o h) q a then refused 22 0
-        else when is_found (first_illegal_lem s a.circuit (a.range + 1)) then refused 20 0
+        else when is_some (first_illegal_lem s a.circuit (a.range + 1)) then refused 20 0
         else when is_taken s a.act a.circuit then refused 21 0
         else accepted a)
         (λ i c. e c i)

@@ -5,32 +5,25 @@ use Rattle.octets.specs.Answer.{Answer, accepted, refused}
 use Rattle.asks.specs.declared.Ask.{Ask}
 use Rattle.asks.specs.Asks.{ask_of}
 use Rattle.hub.specs.declared.Handled.{Handled}
-use Rattle.hub.specs.declared.Handled.TheVariants.{Done, Refused}
 use Rattle.rights.specs.Tables.{Tables}
 use Rattle.hub.specs.Acts.{After, act_of}
 
 -- how many octets the answer has, and the first and the last circuit that is named
-pub record Deed : Type 0 where
-  pub count : ℕ
-  pub first : ℕ
-  pub last : ℕ
-
--- the three together
-abbrev pub deed : ℕ → ℕ → ℕ → Deed
+abbrev pub deed : ℕ → ℕ → ℕ → Handled
 deed count first last = record { count = count; first = first; last = last }
 
 -- the deed or the refusal, and what the states and the answer buffer hold afterwards
 pub record Handling : Type 0 where
-  pub answer : Answer Deed
+  pub answer : Answer Handled
   pub states : List ℕ
   pub buffer : List ℕ
 
 -- the three together
-abbrev pub handling : Answer Deed → List ℕ → List ℕ → Handling
+abbrev pub handling : Answer Handled → List ℕ → List ℕ → Handling
 handling answer states buffer = record { answer = answer; states = states; buffer = buffer }
 
 -- an accepted answer with the circuits m to m+r of what is asked
-abbrev pub with_circuits : Answer Ask → Answer ℕ → Answer Deed
+abbrev pub with_circuits : Answer Ask → Answer ℕ → Answer Handled
 with_circuits (accepted a) (accepted n) = accepted (deed n a.circuit (a.circuit + a.range))
 with_circuits (refused k place) (accepted n) = accepted (deed n 0 0)
 with_circuits asked (refused n at) = refused n at
@@ -44,11 +37,6 @@ unfoldable pub handled_of : Tables → ℕ → List ℕ → List ℕ → Handlin
 handled_of T sender m buffer = handling_of m (act_of T sender m buffer)
 
 -- the same without the circuits
-abbrev pub unspanned : Answer Deed → Answer ℕ
+abbrev pub unspanned : Answer Handled → Answer ℕ
 unspanned (accepted d) = accepted d.count
 unspanned (refused n at) = refused n at
-
--- what a deed's answer says: the deed, or the refusal's number with its octet
-abbrev pub handled_told : Handled → Answer Deed
-handled_told (Done n first last) = accepted (deed n first last)
-handled_told (Refused n at) = refused n at

@@ -3,9 +3,10 @@
 #![tactic(auto)]
 
 // What a call did: how many octets its answer has, and the first and the last circuit that its
-// message names; or the refusal's number with the octet that it is about.
+// message names.
 #[derive(Clone, Copy)]
-pub enum Handled {
-    Done(usize, usize, usize),
-    Refused(u8, usize),
+pub struct Handled {
+    pub count: usize,
+    pub first: usize,
+    pub last: usize,
 }

@@ -5,13 +5,13 @@ use mathlib.Core.Path.{◌≡◌, refl, sym, ◌∙◌, ap}
 use mathlib.Core.List.{List}
 use native.Mathlib.Omega.{arith}
 use borrow.Author.Tests.{le-ltb}
+use Rattle.std.specs.Prelude.{Result}
 use Rattle.octets.specs.Octet.{AllOctets}
-use Rattle.octets.specs.Answer.{◌then◌}
+use Rattle.octets.specs.Answer.{◌then◌, refused}
 use Rattle.octets.specs.Filled.{leaving, room_for}
 use Rattle.octets.specs.Faults.{Judges}
-use Rattle.octets.specs.declared.Written.{Written}
-use Rattle.octets.specs.declared.Written.TheVariants.{Refused}
-use Rattle.octets.specs.Told.{written_told}
+use Rattle.octets.specs.Told.{told}
+use Rattle.octets.specs.declared.Refusal.{Refusal}
 use Rattle.octets.proofs.Told.{writing-determined, writing-keeps}
 use Rattle.parts.specs.Spans.{part_of}
 use Rattle.writing.specs.Write.{order}
@@ -69,17 +69,17 @@ unfolding compact_in compact_of
 compact-judges m buffer = judged.compact-judges isup m (head_of (circuit_of_lem m)) buffer (λ h. refl)
 
 -- ---- any two answers that a contract allows are equal, and a refusal keeps the buffer
-pub write-determined : (circuit kind : ℕ) (fixed first second run buffer : List ℕ) (r t : Written) (left left' : List ℕ)
-    → leaving (written_told r) left ≡ write_of circuit kind fixed first second run buffer → leaving (written_told t) left' ≡ write_of circuit kind fixed first second run buffer → (r ≡ t) × (left ≡ left')
+pub write-determined : (circuit kind : ℕ) (fixed first second run buffer : List ℕ) (r t : Result ℕ Refusal) (left left' : List ℕ)
+    → leaving (told r) left ≡ write_of circuit kind fixed first second run buffer → leaving (told t) left' ≡ write_of circuit kind fixed first second run buffer → (r ≡ t) × (left ≡ left')
 write-determined circuit kind fixed first second run buffer r t left left' = writing-determined (write_of circuit kind fixed first second run buffer) r t left left'
 
-pub write_keeps : (circuit kind : ℕ) (fixed first second run buffer : List ℕ) (n at : ℕ) (left : List ℕ) → leaving (written_told (Refused n at)) left ≡ write_of circuit kind fixed first second run buffer → left ≡ buffer
+pub write_keeps : (circuit kind : ℕ) (fixed first second run buffer : List ℕ) (n at : ℕ) (left : List ℕ) → leaving (refused n at) left ≡ write_of circuit kind fixed first second run buffer → left ≡ buffer
 unfolding write_of
 write_keeps circuit kind fixed first second run buffer n at left e = writing-keeps buffer (write_in circuit kind fixed first second run then room_for buffer) n at left e
 
-pub compact-determined : (m buffer : List ℕ) (r t : Written) (left left' : List ℕ) → leaving (written_told r) left ≡ compact_of m buffer → leaving (written_told t) left' ≡ compact_of m buffer → (r ≡ t) × (left ≡ left')
+pub compact-determined : (m buffer : List ℕ) (r t : Result ℕ Refusal) (left left' : List ℕ) → leaving (told r) left ≡ compact_of m buffer → leaving (told t) left' ≡ compact_of m buffer → (r ≡ t) × (left ≡ left')
 compact-determined m buffer r t left left' = writing-determined (compact_of m buffer) r t left left'
 
-pub compact-keeps : (m buffer : List ℕ) (n at : ℕ) (left : List ℕ) → leaving (written_told (Refused n at)) left ≡ compact_of m buffer → left ≡ buffer
+pub compact-keeps : (m buffer : List ℕ) (n at : ℕ) (left : List ℕ) → leaving (refused n at) left ≡ compact_of m buffer → left ≡ buffer
 unfolding compact_of
 compact-keeps m buffer n at left e = writing-keeps buffer (compact_in m then room_for buffer) n at left e

@@ -8,13 +8,13 @@ use mathlib.Core.Logic.{◌⊎◌, inl, inr, ⊎_elim}
 use native.Mathlib.Omega.{arith}
 use borrow.Author.Tests.{lt-ltb, le-ltb}
 use lib.ListN.{length, get_or-append}
+use Rattle.std.specs.Prelude.{Some}
 use Rattle.octets.specs.Octet.{octet}
 use Rattle.octets.specs.Answer.{accepted, refused}
 use Rattle.octets.specs.Filled.{Done, filled, leaving}
 use Rattle.octets.proofs.Choice.{decided}
 use Rattle.octets.proofs.Octet.{Within, within-head}
 use Rattle.layout.specs.declared.Shape.{Shape}
-use Rattle.layout.specs.declared.Row.TheVariants.{Has}
 use Rattle.runs.specs.Run.{is_run_lem, stop_from, stops, step_at_lem}
 use Rattle.runs.specs.Params.{Param, Params}
 use Rattle.runs.proofs.Exactly.{is-run-exactly}
@@ -32,7 +32,7 @@ use Rattle.isup.specs.Write.{head_of, order_of, write_in, write_of}
 abbrev pub rel : Shape
 rel = record { fixed = 0; vars = 1; opt = true }
 
-pub rel-row : shape_of REL ≡ Has rel
+pub rel-row : shape_of REL ≡ Some rel
 unfolding shape_of
 rel-row = refl
 

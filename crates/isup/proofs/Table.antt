@@ -7,11 +7,10 @@ use mathlib.Core.List.{List, [], ◌∷◌}
 use mathlib.Core.Logic.{inl, ⊎_elim, ◌↔◌}
 use native.Mathlib.Omega.{arith}
 use lib.ListN.{length}
+use Rattle.std.specs.Prelude.{Option, Some, None}
 use Rattle.octets.specs.Among.{OneOf}
 use Rattle.octets.specs.Octet.{octet}
 use Rattle.layout.specs.declared.Shape.{Shape}
-use Rattle.layout.specs.declared.Row.{Row}
-use Rattle.layout.specs.declared.Row.TheVariants.{Has, Unknown}
 use Rattle.layout.specs.Faults.{NoRow}
 use Rattle.layout.specs.Packed.{unpacked_of}
 use Rattle.layout.proofs.Packed.{table_of, table-rows}
@@ -79,19 +78,19 @@ entries =
 -- the shape row of each is what its entry says
 abbrev pub Said : List Entry → Type 0
 Said [] = Unit {0}
-Said (x ∷ xs) = (shape_of x.octet ≡ Has (record { fixed = x.fixed; vars = x.vars; opt = x.opt })) × Said xs
+Said (x ∷ xs) = (shape_of x.octet ≡ Some (record { fixed = x.fixed; vars = x.vars; opt = x.opt })) × Said xs
 
 pub rows-said : (length entries ≡ 24) × Said entries
 unfolding shape_of
 rows-said = (refl, (refl, (refl, (refl, (refl, (refl, (refl, (refl, (refl, (refl, (refl, (refl, (refl, (refl, (refl, (refl, (refl, (refl, (refl, (refl, (refl, (refl, (refl, (refl, (refl, tt)))))))))))))))))))))))))
 
 -- the table has a row for these, and for no other number
-pub types-exactly : (t : ℕ) → ((s : Shape) × (shape_of t ≡ Has s)) ↔ OneOf t type_octets
+pub types-exactly : (t : ℕ) → ((s : Shape) × (shape_of t ≡ Some s)) ↔ OneOf t type_octets
 unfolding shape_of
 types-exactly t = (λ x. look-listed t table x.0 x.1, λ o. listed-look t table o)
 
 -- a row of the table has at most two variable parts
-pub table-two : (t : ℕ) (s : Shape) → shape_of t ≡ Has s → s.vars ≤ 2
+pub table-two : (t : ℕ) (s : Shape) → shape_of t ≡ Some s → s.vars ≤ 2
 unfolding shape_of
 table-two t s e =
     look-at-most 2 t table s
@@ -106,9 +105,9 @@ three-exactly t = (
   λ h. go (shape_of t) refl h,
 )
   where
-    go : (r : Row) → shape_of t ≡ r → (OneOf t type_octets → ⊥) → NoRow (shape_of t)
-    go Unknown e h = inl e
-    go (Has s) e h = absurd (h ((types-exactly t).0 (s, e)))
+    go : (r : Option Shape) → shape_of t ≡ r → (OneOf t type_octets → ⊥) → NoRow (shape_of t)
+    go None e h = inl e
+    go (Some s) e h = absurd (h ((types-exactly t).0 (s, e)))
 
 -- the look-up table says what the rows of document 01 say, at each of the 256 octets; the proof of
 -- `shape_of` computes that it is the code's

@@ -2,7 +2,6 @@ pub mod Limits
 pub mod Types
 pub mod Table
 pub mod Read
-pub mod Told
 pub mod WellFormed
 pub mod Faults
 pub mod Write

@@ -1,8 +1,7 @@
 -- The table of types: octets of the fixed part, variable parameters, and
 -- whether there is an optional part.
-use Rattle.std.specs.Prelude.{ℕ, true, false, List, [], ◌∷◌}
+use Rattle.std.specs.Prelude.{ℕ, true, false, List, [], ◌∷◌, Option}
 use Rattle.layout.specs.declared.Shape.{Shape}
-use Rattle.layout.specs.declared.Row.{Row}
 use Rattle.family.specs.Table.{line, look}
 use Rattle.family.specs.Family.{Family}
 use Rattle.isup.specs.Limits.{longest}
@@ -24,7 +23,7 @@ table =
     ∷ []
 
 -- R14. what the table says of a type octet
-unfoldable pub shape_of : ℕ → Row
+unfoldable pub shape_of : ℕ → Option Shape
 shape_of t = look t table
 
 -- two octets of circuit number before the type, and 268 octets at the most

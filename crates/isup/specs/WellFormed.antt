@@ -1,8 +1,7 @@
 -- A well-formed ISUP message, as the paper says it: no order of reading.
-use Rattle.std.specs.Prelude.{ℕ, ◌≤◌, ◌≡◌, List, length}
+use Rattle.std.specs.Prelude.{ℕ, ◌≤◌, ◌≡◌, List, Some, length}
 use Rattle.octets.specs.Octet.{octet}
 use Rattle.layout.specs.declared.Shape.{Shape}
-use Rattle.layout.specs.declared.Row.TheVariants.{Has}
 use Rattle.runs.specs.Params.{Param}
 use Rattle.layout.specs.Laid.{LaidOut}
 use Rattle.isup.specs.declared.Message.{Message}
@@ -18,5 +17,5 @@ pub record WellFormed (m : List ℕ) (x : Message) : Type 0 where
   pub most : length m ≤ longest
   pub circuit : x.circuit ≡ circuit_of_lem m
   pub kind : x.kind ≡ octet m 2
-  pub listed : shape_of x.kind ≡ Has shape
+  pub listed : shape_of x.kind ≡ Some shape
   pub laid : LaidOut m 2 shape x.parts params

@@ -2,24 +2,22 @@
 #![tactic(auto)]
 
 ghost use Rattle.std.specs.Prelude.{◌≡◌, ◌+◌, ◌≤◌, ◌<◌, length};
+ghost use Rattle.octets.specs.Told.{told};
 ghost use Rattle.octets.specs.Filled.{leaving};
 ghost use Rattle.isup.specs.Table.{shape_of};
 ghost use Rattle.isup.specs.Read.{circuit_of_lem, read_of};
 ghost use Rattle.isup.specs.Write.{write_of, compact_of};
-ghost use Rattle.octets.specs.Told.{written_told};
-ghost use Rattle.isup.specs.Told.{reading_told};
 
-use isup::{LAST_CIRCUIT, LONGEST, Message, Reading};
-use layout::Row;
-use octets::Written;
-use parts::Body;
+use isup::{LAST_CIRCUIT, LONGEST, Message};
+use layout::Shape;
+use octets::Refusal;
 use shapes::SHAPES;
 
 mod shapes;
 
 // What the table says of a type octet: its shape row, or that it is not in the table. One answer
 // for each of the 256, by one look-up.
-pub fn shape_of(kind: u8) -> Row
+pub fn shape_of(kind: u8) -> Option<Shape>
     ensures { result ≡ shape_of kind }
 {
     heads::row_of(SHAPES[kind as usize])
@@ -35,18 +33,16 @@ fn circuit_of(message: &[u8]) -> u16
 
 // Reads a message: its circuit, its type and where its parts stand; or the refusal's number with
 // the octet that it is about, 0 for 1 and 2.
-pub fn read(message: &[u8]) -> Reading
-    ensures { reading_told result ≡ read_of message.now }
+pub fn read(message: &[u8]) -> Result<Message, Refusal>
+    ensures { told result ≡ read_of message.now }
 {
     let kind = heads::kind_at(message, 2);
-    match reading::read_parts(message, 2, LONGEST, shape_of(kind)) {
-        Body::Laid(parts) => Reading::Read(Message {
-            circuit: circuit_of(message),
-            kind,
-            parts,
-        }),
-        Body::Broken(n, at) => Reading::Refused(n, at),
-    }
+    let parts = reading::read_parts(message, 2, LONGEST, shape_of(kind))?;
+    Ok(Message {
+        circuit: circuit_of(message),
+        kind,
+        parts,
+    })
 }
 
 // Writes a message in its compact form: fills the front of `out` and keeps the rest, and answers
@@ -60,44 +56,42 @@ pub fn write(
     second: &[u8],
     optional: &[u8],
     out: &mut [u8],
-) -> Written
-    ensures { leaving (written_told result) out.new ≡
+) -> Result<usize, Refusal>
+    ensures { leaving (told result) out.new ≡
         write_of circuit kind fixed.now first.now second.now
         optional.now out.old }
 {
     if LAST_CIRCUIT < circuit {
-        return Written::Refused(9, 0);
+        return Err(Refusal::NoCircuit);
     }
     if 255 < kind {
-        return Written::Refused(3, 0);
+        return Err(Refusal::UnknownType(0));
     }
     let octet = kind as u8;
-    match shape_of(octet) {
-        Row::Unknown => Written::Refused(3, 0),
-        Row::Has(shape) => {
-            let head = [(circuit % 256) as u8, (circuit / 256) as u8];
-            filling::write_parts(
-                shape,
-                LONGEST as u16,
-                &head,
-                octet,
-                fixed,
-                first,
-                second,
-                &optional[0..0],
-                optional,
-                out,
-            )
-        }
-    }
+    let Some(shape) = shape_of(octet) else {
+        return Err(Refusal::UnknownType(0));
+    };
+    let head = [(circuit % 256) as u8, (circuit / 256) as u8];
+    filling::write_parts(
+        shape,
+        LONGEST as u16,
+        &head,
+        octet,
+        fixed,
+        first,
+        second,
+        &optional[0..0],
+        optional,
+        out,
+    )
 }
 
 // Reads a message and writes it again, in its compact form: fills the front of `out` and keeps the
 // rest, and answers how many octets were written.
 // Refused with the reader's numbers and octets, then 12, then 13, and then
 // `out` holds what it held.
-pub fn compact(message: &[u8], out: &mut [u8]) -> Written
-    ensures { leaving (written_told result) out.new ≡
+pub fn compact(message: &[u8], out: &mut [u8]) -> Result<usize, Refusal>
+    ensures { leaving (told result) out.new ≡
         compact_of message.now out.old }
 {
     let kind = heads::kind_at(message, 2);

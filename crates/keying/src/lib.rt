@@ -2,15 +2,15 @@
 #![tactic(auto)]
 
 ghost use Rattle.std.specs.Prelude.{◌≡◌, false, ◌∷◌, ◌+◌, ◌*◌, ◌/◌, ◌≤◌, length, drop};
+ghost use Rattle.octets.specs.Told.{told};
 ghost use Rattle.std.proofs.lemmas.List.Edits.{sets};
 ghost use denote.Ref.{at_last};
 ghost use Rattle.octets.specs.Filled.{leaving};
-ghost use Rattle.octets.specs.Told.{written_told};
 ghost use Rattle.number.specs.Halves.{two_to_an_octet};
 ghost use Rattle.dialling.specs.Write.{any_above15, write_number_of};
 
 use number::MOST_SIGNALS;
-use octets::Written;
+use octets::Refusal;
 
 // The largest address signal.
 const LARGEST_SIGNAL: u8 = 15;
@@ -28,14 +28,7 @@ const LARGEST_INTERNAL: u32 = 1;
 fn any_above_15(signals: &[u8]) -> bool
     ensures { result ≡ any_above15 signals.now }
 {
-    let mut i = 0;
-    while i < signals.len() {
-        if signals[i] > LARGEST_SIGNAL {
-            return true;
-        }
-        i += 1;
-    }
-    false
+    signals.iter().any(|signal| *signal > LARGEST_SIGNAL)
 }
 
 // The steps of writing hand on references to the two lent slices, one word each: what they hand on
@@ -101,28 +94,28 @@ pub fn write_number(
     internal: u32,
     signals: &[u8],
     out: &mut [u8],
-) -> Written
-    ensures { leaving (written_told result) out.new ≡
+) -> Result<usize, Refusal>
+    ensures { leaving (told result) out.new ≡
         write_number_of nature plan internal signals.now out.old }
 {
     if nature > LARGEST_NATURE {
-        return Written::Refused(14, 0);
+        return Err(Refusal::BadContents);
     } else if plan > LARGEST_PLAN {
-        return Written::Refused(14, 0);
+        return Err(Refusal::BadContents);
     } else if internal > LARGEST_INTERNAL {
-        return Written::Refused(14, 0);
+        return Err(Refusal::BadContents);
     } else if signals.len() > MOST_SIGNALS {
-        return Written::Refused(14, 0);
+        return Err(Refusal::BadContents);
     } else if any_above_15(signals) {
-        return Written::Refused(14, 0);
+        return Err(Refusal::BadContents);
     }
     let count = signals.len();
     let length = 2 + (count + 1) / 2;
     if out.len() < length {
-        return Written::Refused(13, 0);
+        return Err(Refusal::NoRoom);
     }
     out[0] = 128 * ((count % 2) as u8) + nature as u8;
     out[1] = 128 * (internal as u8) + 16 * (plan as u8);
     write_signals(&signals, out, count);
-    Written::Octets(length)
+    Ok(length)
 }

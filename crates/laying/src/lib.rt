@@ -2,9 +2,9 @@
 #![tactic(auto)]
 
 ghost use Rattle.std.specs.Prelude.{◌≡◌, true, ◌∷◌, [], ◌+◌, ◌-◌, ◌/◌, ◌%◌, ◌≤◌, ◌<◌, length};
+ghost use Rattle.octets.specs.Told.{told};
 ghost use Rattle.std.proofs.lemmas.List.Edits.{sets};
 ghost use Rattle.octets.specs.Filled.{leaving};
-ghost use Rattle.octets.specs.Told.{written_told};
 ghost use Rattle.asks.specs.Asks.{width};
 ghost use Rattle.rights.specs.Tables.{tables};
 ghost use Rattle.plans.specs.Plans.{ticked};
@@ -14,27 +14,19 @@ ghost use Rattle.planning.specs.Planner.{in_row, ones, low_ones_lem, cgb, step_f
 ghost use Rattle.planning.specs.Outcome.{frame, PlanReady, plan_for, planned_of};
 
 use isup::{BLO, CGB};
-use octets::Written;
+use octets::Refusal;
 use rows::CIRCUITS;
-use surveys::Survey;
 
 // How many are ticked in a row, 32 at the most.
 fn in_row(ticks: &[u8], c: usize) -> usize
     requires { (length ticks.now ≡ 4096) × (c ≤ 4096) }
     ensures { result ≡ in_row (ticked ticks.now) c 32 }
 {
-    let mut n = 0;
-    while n < 32 {
-        let at = c + n;
-        if 4095 < at {
-            return n;
-        }
-        if ticks[at] == 0 {
-            return n;
-        }
-        n += 1;
-    }
-    n
+    ticks[c..]
+        .iter()
+        .take(32)
+        .take_while(|&&tick| tick != 0)
+        .count()
 }
 
 // An octet with its first n bits set.
@@ -70,11 +62,9 @@ fn put_ones(out: &mut [u8], at: usize, k: usize, n: usize)
     ensures { out.new ≡ sets out.old at (ones k n) }
 {
     let mut left = n;
-    let mut j = 0;
-    while j < k {
-        out[at + j] = low_ones(left);
+    for octet in &mut out[at..at + k] {
+        *octet = low_ones(left);
         left = less_eight(left);
-        j += 1;
     }
 }
 
@@ -165,6 +155,7 @@ fn lay(owners: &[u8], helpers: &[u8], ticks: &[u8], sender: u32, kind: u32, out:
 {
     let mut c = 0;
     let mut at = 0;
+    // Goes on by the length of the row that it put, or by one past a circuit that is not ticked.
     while c < 4096 {
         let n = in_row(ticks, c);
         if n == 0 {
@@ -182,7 +173,7 @@ fn lay(owners: &[u8], helpers: &[u8], ticks: &[u8], sender: u32, kind: u32, out:
 // hardware a CGB with a neighbour.
 // Refused in order: 16 for a table that is not 4096 octets, 14 for a kind other than 0 or 1, 20 for
 // any row that is not legal, 25 if there is no plan, 13 for under 9 octets of `out` for each ticked
-// circuit; a refusal changes no octet.
+// circuit; a refusal changes no octet. The kind stays a number: C and the desk may give any.
 pub fn plan(
     states: &[u8],
     owners: &[u8],
@@ -191,35 +182,29 @@ pub fn plan(
     sender: u32,
     kind: u32,
     out: &mut [u8],
-) -> Written
-    ensures { leaving (written_told result) out.new ≡
+) -> Result<usize, Refusal>
+    ensures { leaving (told result) out.new ≡
         planned_of (tables states.now owners.now helpers.now)
         ticks.now sender kind out.old }
 {
     if states.len() != CIRCUITS {
-        return Written::Refused(16, 0);
+        return Err(Refusal::WrongTables);
     }
     if owners.len() != CIRCUITS {
-        return Written::Refused(16, 0);
+        return Err(Refusal::WrongTables);
     }
     if helpers.len() != CIRCUITS {
-        return Written::Refused(16, 0);
+        return Err(Refusal::WrongTables);
     }
     if ticks.len() != CIRCUITS {
-        return Written::Refused(16, 0);
+        return Err(Refusal::WrongTables);
     }
     if 1 < kind {
-        return Written::Refused(14, 0);
+        return Err(Refusal::BadContents);
     }
-    match surveying::survey(states, owners, helpers, ticks, sender, kind) {
-        Survey::Illegal => Written::Refused(20, 0),
-        Survey::Stuck => Written::Refused(25, 0),
-        Survey::Ticked(count) => {
-            if out.len() < 9 * count {
-                return Written::Refused(13, 0);
-            }
-            let n = lay(owners, helpers, ticks, sender, kind, out);
-            Written::Octets(n)
-        }
+    let count = surveying::survey(states, owners, helpers, ticks, sender, kind)?;
+    if out.len() < 9 * count {
+        return Err(Refusal::NoRoom);
     }
+    Ok(lay(owners, helpers, ticks, sender, kind, out))
 }

@@ -1,5 +1,6 @@
 -- Accepted exactly when well formed: the reader gives these parts if and only
 -- if the message is laid out so.
+use Rattle.std.specs.Prelude.{Option, Some, None}
 use Prim.Native.Nat.{ℕ, zero, suc, ◌+◌, ◌-◌, ◌≤◌, ◌<◌}
 use mathlib.Core.Path.{◌≡◌, refl, sym, ◌∙◌, ap, subst}
 use mathlib.Core.Bool.{Bool, true, false}
@@ -18,8 +19,6 @@ use Rattle.runs.specs.declared.Stop.{Stop}
 use Rattle.runs.specs.declared.Stop.TheVariants.{Closed, Ended, Passed}
 use Rattle.layout.specs.declared.Shape.{Shape}
 use Rattle.parts.specs.declared.Parts.{Parts}
-use Rattle.layout.specs.declared.Row.{Row}
-use Rattle.layout.specs.declared.Row.TheVariants.{Has, Unknown}
 use Rattle.parts.specs.Spans.{span}
 use Rattle.layout.specs.Container.{closed, run_from, nothing, past, pointed, variable_from_lem, variable_at_lem, optional_at_lem, variable_slot_lem, optional_slot_lem, start_of, end_of, container_of, shaped_of, of_row, parts_of}
 use Rattle.parts.specs.Overlap.{shares_of, contents_of_lem, run_of, held, judged}
@@ -226,11 +225,11 @@ laid-exactly m w shape p = (λ h. let t = past-test 3 w (ltb 3 shape.vars) h in 
         ∙ (judged-exactly _ l.a l.b l.c l.d (properly m w shape 0 _ l.first) (properly m w shape 1 _ l.second) (properly m w shape 2 _ l.third)
         (optional-proper shape.opt m (end_of w shape) qs l.d l.optional) p).1 (l.apart, sym l.holds)
 
-row-inv : (m : List ℕ) (w : ℕ) (r : Row) (p : Parts) → of_row m w r ≡ accepted p → (s : Shape) × (r ≡ Has s) × (shaped_of m w s ≡ accepted p)
-row-inv m w (Has s) p h = (s, refl, h)
-row-inv m w Unknown p h = absurd (refused-accepted h)
+row-inv : (m : List ℕ) (w : ℕ) (r : Option Shape) (p : Parts) → of_row m w r ≡ accepted p → (s : Shape) × (r ≡ Some s) × (shaped_of m w s ≡ accepted p)
+row-inv m w (Some s) p h = (s, refl, h)
+row-inv m w None p h = absurd (refused-accepted h)
 
-pub parts-exactly : (m : List ℕ) (w most : ℕ) (row : Row) (p : Parts) → (parts_of m w most row ≡ accepted p) ↔ Framed m w most row p
+pub parts-exactly : (m : List ℕ) (w most : ℕ) (row : Option Shape) (p : Parts) → (parts_of m w most row ≡ accepted p) ↔ Framed m w most row p
 unfolding parts_of
 parts-exactly m w most row p = (there, back)
   where

@@ -1,5 +1,6 @@
 -- The container does not look at the header: two messages of one length that agree from the type
 -- octet on have the same answer, refusals and their octets included.
+use Rattle.std.specs.Prelude.{Option, Some, None}
 use Prim.Native.Nat.{ℕ, ◌+◌, ◌-◌, ◌≤◌, ◌<◌}
 use mathlib.Core.Path.{◌≡◌, refl, ◌∙◌, ap}
 use mathlib.Core.Bool.{Bool}
@@ -12,8 +13,6 @@ use Rattle.octets.specs.Choice.{when◌then◌else◌}
 use Rattle.octets.specs.Answer.{accepted, refused, ◌then◌}
 use Rattle.octets.proofs.Answer.{then_same}
 use Rattle.layout.specs.declared.Shape.{Shape}
-use Rattle.layout.specs.declared.Row.{Row}
-use Rattle.layout.specs.declared.Row.TheVariants.{Has, Unknown}
 use Rattle.layout.specs.Container.{closed, run_from, nothing, pointed, variable_from_lem, variable_at_lem, optional_at_lem, variable_slot_lem, optional_slot_lem, start_of, end_of, container_of, parts_of}
 use Rattle.runs.proofs.Same.{stop-same}
 use Rattle.layout.proofs.Pointed.{pointed_points}
@@ -57,7 +56,7 @@ module _ (m m' : List ℕ) (w : ℕ) (l : length m ≡ length m') (s : (i : ℕ)
       then_same (variable_slot_lem m (start_of w x) 2 x.vars (end_of w x)) (slot_same (start_of w x) 2 x.vars (end_of w x) (omega arith)) (λ c ec.
       then_same (optional_slot_lem m x.opt (end_of w x)) (optional-same x.opt (end_of w x) (omega arith)) (λ d ed. refl))))))
 
-  pub header-ignored : (most : ℕ) (r : Row) → parts_of m w most r ≡ parts_of m' w most r
+  pub header-ignored : (most : ℕ) (r : Option Shape) → parts_of m w most r ≡ parts_of m' w most r
   unfolding parts_of
-  header-ignored most (Has x) = rw (l, container-same x) refl
-  header-ignored most Unknown = rw l refl
+  header-ignored most (Some x) = rw (l, container-same x) refl
+  header-ignored most None = rw l refl

@@ -1,5 +1,6 @@
 -- Refused exactly when: the number given back is the first fault in the paper's order, with its
 -- octet, and acceptance is the absence of all.
+use Rattle.std.specs.Prelude.{Option, Some, None}
 use Prim.Native.Nat.{ℕ, ◌+◌, ◌-◌, ◌≤◌, ◌<◌}
 use mathlib.Core.Path.{◌≡◌, refl, sym, ◌∙◌, subst}
 use mathlib.Core.Bool.{true}
@@ -20,8 +21,6 @@ use Rattle.runs.specs.declared.Stop.{Stop}
 use Rattle.runs.specs.declared.Stop.TheVariants.{Closed, Ended, Passed}
 use Rattle.layout.specs.declared.Shape.{Shape}
 use Rattle.parts.specs.declared.Parts.{Parts}
-use Rattle.layout.specs.declared.Row.{Row}
-use Rattle.layout.specs.declared.Row.TheVariants.{Has, Unknown}
 use Rattle.runs.specs.Run.{stop_from}
 use Rattle.layout.specs.Container.{closed, run_from, nothing, target, past, pointed, variable_from_lem, variable_at_lem, optional_at_lem, variable_slot_lem, optional_slot_lem, start_of, end_of, container_of, of_row, parts_of}
 use Rattle.parts.specs.Overlap.{shares_of, later, judged}
@@ -149,14 +148,14 @@ module _ (m : List ℕ) (w : ℕ) (s : Shape) where
       (sharing-judges b d vb ub o ud pb pd
       (sharing-judges c d vc uc o ud pc pd (judges-done _)))))))))))
 
-no-row-over : (s : Shape) → NoRow (Has s) → 3 < s.vars
+no-row-over : (s : Shape) → NoRow (Some s) → 3 < s.vars
 no-row-over s = ⊎_elim (λ e. absurd (let z : ◌≡◌ {A = ℕ} 0 1 = cc in omega arith)) (λ x. let e = x.1 in let q : s ≡ x.0 = cc in rw q x.2)
 
-row-judges : (m : List ℕ) (w : ℕ) (r : Row) → Judges (of_row m w r) (fault 3 w (NoRow r) ∷ row_faults m w r)
-row-judges m w Unknown = judges-there (fault 3 w (NoRow Unknown)) [] w (refl, inl refl) (λ at x. x.0)
-row-judges m w (Has s) = judges-if (ltb 3 s.vars) (λ t. inr (s, refl, ltb-true _ _ t)) (λ f x. omega (arith, ltb-false, no-row-over s x)) (λ f. container-judges m w s)
+row-judges : (m : List ℕ) (w : ℕ) (r : Option Shape) → Judges (of_row m w r) (fault 3 w (NoRow r) ∷ row_faults m w r)
+row-judges m w None = judges-there (fault 3 w (NoRow None)) [] w (refl, inl refl) (λ at x. x.0)
+row-judges m w (Some s) = judges-if (ltb 3 s.vars) (λ t. inr (s, refl, ltb-true _ _ t)) (λ f x. omega (arith, ltb-false, no-row-over s x)) (λ f. container-judges m w s)
 
-pub parts-judges : (m : List ℕ) (w most : ℕ) (row : Row) → Judges (parts_of m w most row) (message_faults m w most row)
+pub parts-judges : (m : List ℕ) (w most : ℕ) (row : Option Shape) → Judges (parts_of m w most row) (message_faults m w most row)
 unfolding parts_of
 parts-judges m w most row =
     judges-if (leb (length m) w) (leb-true _ _) (λ x y. omega (arith, leb-false))

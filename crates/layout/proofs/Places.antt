@@ -1,5 +1,6 @@
 -- The octet that a refusal is about: document 02's rule, number by number, and that it never lies
 -- beyond the message's length.
+use Rattle.std.specs.Prelude.{Option, Some, None}
 use Prim.Native.Nat.{ℕ, ◌+◌, ◌-◌, ◌*◌, ◌≤◌, ◌<◌}
 use mathlib.Core.Path.{◌≡◌, refl, ap}
 use mathlib.Core.Bool.{Bool, true, false}
@@ -18,8 +19,6 @@ use Rattle.octets.proofs.Places.{Each, first_so, UpTo, up-to-accepted, up-to-ref
 use Rattle.parts.specs.declared.Span.{Span}
 use Rattle.layout.specs.declared.Shape.{Shape}
 use Rattle.parts.specs.declared.Parts.{Parts}
-use Rattle.layout.specs.declared.Row.{Row}
-use Rattle.layout.specs.declared.Row.TheVariants.{Has, Unknown}
 use Rattle.runs.specs.declared.Stop.{Stop}
 use Rattle.runs.specs.declared.Stop.TheVariants.{Closed, Ended, Passed}
 use Rattle.runs.specs.Run.{stop_from}
@@ -149,7 +148,7 @@ module _ (m : List ℕ) (w : ℕ) (s : Shape) where
       after fs gs o k g = ⊎_elim (first_so (PartPlace m w s) fs n at o) (λ x. k x.1) ((first-append fs gs n at).0 g)
 
 -- what a reader's refusal is about, number by number
-pub place-rule : (m : List ℕ) (w most : ℕ) (r : Row) (n at : ℕ) → parts_of m w most r ≡ refused n at → Place m w r n at
+pub place-rule : (m : List ℕ) (w most : ℕ) (r : Option Shape) (n at : ℕ) → parts_of m w most r ≡ refused n at → Place m w r n at
 place-rule m w most r n at e =
     ⊎_elim (λ x. inl (omega (arith, x.0), x.1.0))
     (λ x. ⊎_elim (λ x. inl (omega (arith, x.0), x.1.0))
@@ -157,9 +156,9 @@ place-rule m w most r n at e =
     x.1)
     (((parts-judges m w most r).refuses n at).0 e)
   where
-    row : (r : Row) → First (row_faults m w r) n at → Place m w r n at
-    row Unknown f = absurd f
-    row (Has s) f = ⊎_elim (λ x. inr (inr (inl (x.0, x.1.0)))) (λ x. inr (inr (inr (s, refl, part-place m w s n at x.1)))) f
+    row : (r : Option Shape) → First (row_faults m w r) n at → Place m w r n at
+    row None f = absurd f
+    row (Some s) f = ⊎_elim (λ x. inr (inr (inl (x.0, x.1.0)))) (λ x. inr (inr (inr (s, refl, part-place m w s n at x.1)))) f
 
 -- ---- never beyond the message's length
 pointed-within : (m : List ℕ) (p e : ℕ) → p ≤ length m → UpTo (length m) (pointed m p e)
@@ -232,19 +231,19 @@ container-within m w s =
     up-to-then _ (optional_slot_lem m s.opt (end_of w s)) _ (optional-within m s.opt (end_of w s) h) (λ d ed.
     judged-within (length m) _ a b c d (u 0 a ea) (u 1 b eb) (u 2 c ec) (optional-starts-within m s.opt (end_of w s) d ed))))))
 
-row_within : (m : List ℕ) (w : ℕ) (r : Row) → w < length m → UpTo (length m) (of_row m w r)
-row_within m w Unknown h = up-to-refused _ 3 w (omega arith)
-row_within m w (Has s) h = up-to-if _ (ltb 3 s.vars) (λ t. up-to-refused _ 3 w (omega arith)) (λ t. container-within m w s)
+row_within : (m : List ℕ) (w : ℕ) (r : Option Shape) → w < length m → UpTo (length m) (of_row m w r)
+row_within m w None h = up-to-refused _ 3 w (omega arith)
+row_within m w (Some s) h = up-to-if _ (ltb 3 s.vars) (λ t. up-to-refused _ 3 w (omega arith)) (λ t. container-within m w s)
 
 -- a place is never beyond the message's length
-pub place-within : (m : List ℕ) (w most : ℕ) (r : Row) (n at : ℕ) → parts_of m w most r ≡ refused n at → at ≤ length m
+pub place-within : (m : List ℕ) (w most : ℕ) (r : Option Shape) (n at : ℕ) → parts_of m w most r ≡ refused n at → at ≤ length m
 unfolding parts_of
 place-within m w most r =
     up-to-if _ (leb (length m) w) (λ t. up-to-refused _ 1 0 (omega arith))
     (λ t. up-to-if _ (ltb most (length m)) (λ u. up-to-refused _ 2 0 (omega arith)) (λ u. row_within m w r (leb-false _ _ t)))
 
 -- nor beyond the longest message's
-pub place-most : (m : List ℕ) (w most : ℕ) (r : Row) (n at : ℕ) → parts_of m w most r ≡ refused n at → at ≤ most
+pub place-most : (m : List ℕ) (w most : ℕ) (r : Option Shape) (n at : ℕ) → parts_of m w most r ≡ refused n at → at ≤ most
 unfolding parts_of
 place-most m w most r =
     up-to-if _ (leb (length m) w) (λ t. up-to-refused _ 1 0 (omega arith))

@@ -1,4 +1,7 @@
 -- A pointer that is followed.
+use Rattle.std.specs.Prelude.{Result, Ok}
+use Rattle.octets.specs.Told.{told}
+use Rattle.octets.specs.declared.Refusal.{Refusal}
 use Prim.Native.Nat.{ℕ, ◌≤◌, ◌<◌}
 use mathlib.Core.Path.{◌≡◌, sym, ◌∙◌, ap}
 use mathlib.Core.List.{List}
@@ -6,12 +9,9 @@ use mathlib.Core.Logic.{⊎_elim}
 use borrow.Author.Tests.{le-ltb, lt-leb, ltb-false, leb-false}
 use lib.Dec.{ltb, leb}
 use lib.ListN.{length}
-use Rattle.octets.specs.Answer.{Answer, accepted, refused, ◌then◌}
+use Rattle.octets.specs.Answer.{accepted}
 use Rattle.octets.proofs.Choice.{chosen}
 use Rattle.octets.proofs.Answer.{refused-accepted, accepted-same}
-use Rattle.layout.specs.declared.Target.{Target}
-use Rattle.layout.specs.declared.Target.TheVariants.{At, Off}
-use Rattle.layout.specs.Told.{target_told}
 use Rattle.layout.specs.Container.{target, pointed}
 use Rattle.layout.specs.Laid.{Points}
 
@@ -30,12 +30,6 @@ points-pointed {m} {p} {e} x =
     rw x.counted (simp (le-ltb _ _ a, lt-leb _ _ b))
 
 -- from what the call that follows a pointer ensures
-module _ (m : List ℕ) (p e : ℕ) (x : Target) (r : target_told p x ≡ pointed m p e) where
-  pub at-points : (t : ℕ) → x ≡ At t → Points m e p t
-  at-points t q = pointed_points m p e (sym r ∙ ap (target_told p) q)
-
-  pub off-then : {A : Type 0} (f : ℕ → Answer A) → x ≡ Off → refused 5 p ≡ (pointed m p e then f)
-  off-then f q = ap (λ y. y then f) (sym (ap (target_told p) q) ∙ r)
-
-  pub at-then : {A : Type 0} (f : ℕ → Answer A) (t : ℕ) → x ≡ At t → f t ≡ (pointed m p e then f)
-  at-then f t q = ap (λ y. y then f) (sym (ap (target_told p) q) ∙ r)
+module _ (m : List ℕ) (p e : ℕ) (x : Result ℕ Refusal) (r : told x ≡ pointed m p e) where
+  pub at-points : (t : ℕ) → x ≡ Ok t → Points m e p t
+  at-points t q = pointed_points m p e (sym r ∙ ap (told) q)

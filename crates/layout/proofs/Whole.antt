@@ -1,25 +1,15 @@
 -- The container from its pieces, over plain variables: a caller hands over what its calls ensure.
 use Prim.Native.Nat.{ℕ, ◌+◌, ◌≤◌, ◌<◌}
-use mathlib.Core.Path.{◌≡◌, sym, ◌∙◌, ap}
+use mathlib.Core.Path.{◌≡◌}
 use mathlib.Core.List.{List}
 use borrow.Author.Tests.{lt-ltb, le-ltb}
 use lib.ListN.{length}
 use Rattle.octets.specs.Answer.{Answer, accepted, refused}
 use Rattle.parts.specs.declared.Span.{Span}
-use Rattle.layout.specs.declared.Slot.{Slot}
-use Rattle.layout.specs.declared.Slot.TheVariants.{At, Bad}
 use Rattle.layout.specs.declared.Shape.{Shape}
 use Rattle.parts.specs.Spans.{span}
 use Rattle.layout.specs.Container.{start_of, end_of, variable_slot_lem, optional_slot_lem, container_of}
 use Rattle.parts.specs.Overlap.{judged}
-use Rattle.layout.specs.Told.{slot_told}
-
--- what a call that answers a slot ensures, with the case that came
-pub slot_at : {x : Slot} {y : Answer Span} (s : Span) → slot_told x ≡ y → x ≡ At s → y ≡ accepted s
-slot_at s e q = sym e ∙ ap slot_told q
-
-pub slot-bad : {x : Slot} {y : Answer Span} (n at : ℕ) → slot_told x ≡ y → x ≡ Bad n at → y ≡ refused n at
-slot-bad n at e q = sym e ∙ ap slot_told q
 
 module _ (m : List ℕ) (w : ℕ) (s : Shape) (e : ℕ) (q : e ≡ end_of w s) where
   pub container-cut : length m < e → refused 4 (length m) ≡ container_of m w s

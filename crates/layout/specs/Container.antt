@@ -2,6 +2,7 @@
 -- given back, with the octet that it is about.
 -- The order is the paper's: 1, 2, 3, 4; each variable pointer in turn 5 then 6; the optional
 -- pointer 5 then 7; then 8.
+use Rattle.std.specs.Prelude.{Option, Some, None}
 use Rattle.std.specs.Prelude.{ℕ, ◌+◌, ◌-◌, Bool, true, false, List, length, ltb, leb, eqb}
 use Rattle.octets.specs.Octet.{octet}
 use Rattle.octets.specs.Choice.{when◌then◌else◌}
@@ -9,8 +10,6 @@ use Rattle.octets.specs.Answer.{Answer, accepted, refused, ◌then◌}
 use Rattle.parts.specs.declared.Span.{Span}
 use Rattle.layout.specs.declared.Shape.{Shape}
 use Rattle.parts.specs.declared.Parts.{Parts}
-use Rattle.layout.specs.declared.Row.{Row}
-use Rattle.layout.specs.declared.Row.TheVariants.{Has, Unknown}
 use Rattle.parts.specs.Spans.{span}
 use Rattle.parts.specs.Overlap.{judged}
 use Rattle.runs.specs.declared.Stop.{Stop}
@@ -103,13 +102,13 @@ abbrev pub shaped_of : List ℕ → ℕ → Shape → Answer Parts
 shaped_of m w s = when ltb 3 s.vars then refused 3 w else container_of m w s
 
 -- 3 for a type that is not in the family's table, about the type octet
-abbrev pub of_row : List ℕ → ℕ → Row → Answer Parts
-of_row m w (Has s) = shaped_of m w s
-of_row m w Unknown = refused 3 w
+abbrev pub of_row : List ℕ → ℕ → Option Shape → Answer Parts
+of_row m w (Some s) = shaped_of m w s
+of_row m w None = refused 3 w
 
 -- a whole message of a family: 1 where it ends before the type octet, 2 where
 -- it is longer than the longest
-unfoldable pub parts_of : List ℕ → ℕ → ℕ → Row → Answer Parts
+unfoldable pub parts_of : List ℕ → ℕ → ℕ → Option Shape → Answer Parts
 parts_of m w most r =
     when leb (length m) w then refused 1 0
     else when ltb most (length m) then refused 2 0

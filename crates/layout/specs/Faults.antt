@@ -1,13 +1,12 @@
 -- The faults of a message, each in the paper's words, in the paper's order: 1, 2, 3, 4; each
 -- variable pointer in turn 5 then 6; the optional pointer 5 then 7; then 8.
+use Rattle.std.specs.Prelude.{Option, Some, None}
 use Rattle.std.specs.Prelude.{ℕ, ◌+◌, ◌-◌, ◌≤◌, ◌<◌, ◌≡◌, true, List, [], ◌∷◌, ◌++◌, ◌⊎◌, length}
 use Rattle.octets.specs.Octet.{octet}
 use Rattle.octets.specs.Faults.{Fault, fault}
 use Rattle.parts.specs.declared.Span.{Span}
 use Rattle.parts.specs.Overlap.{LargerStart}
 use Rattle.layout.specs.declared.Shape.{Shape}
-use Rattle.layout.specs.declared.Row.{Row}
-use Rattle.layout.specs.declared.Row.TheVariants.{Has, Unknown}
 use Rattle.layout.specs.Container.{target, past, start_of, end_of}
 use Rattle.runs.specs.Params.{Param, Params, Passes}
 use Rattle.layout.specs.Laid.{VariableSlot, OptionalSlot, Share}
@@ -75,17 +74,17 @@ module _ (m : List ℕ) (w : ℕ) (s : Shape) where
       ++ (variable_faults 1 ++ (variable_faults 2 ++ (optional_faults ++ sharing_faults))))
 
 -- 3: the type is not in the table, or its row has more than three variable parameters
-abbrev pub NoRow : Row → Type 0
-NoRow r = (r ≡ Unknown) ⊎ ((s : Shape) × (r ≡ Has s) × (3 < s.vars))
+abbrev pub NoRow : Option Shape → Type 0
+NoRow r = (r ≡ None) ⊎ ((s : Shape) × (r ≡ Some s) × (3 < s.vars))
 
 -- what is wrong with the container of a type that the table has
-abbrev pub row_faults : List ℕ → ℕ → Row → List Fault
-row_faults m w (Has s) = container_faults m w s
-row_faults m w Unknown = []
+abbrev pub row_faults : List ℕ → ℕ → Option Shape → List Fault
+row_faults m w (Some s) = container_faults m w s
+row_faults m w None = []
 
 -- R15. a message of a family: 1 where L is under the header and the type octet, 2 where it is over
 -- the longest, 3 for a type that is not in the table or has no row that can be read
-abbrev pub message_faults : List ℕ → ℕ → ℕ → Row → List Fault
+abbrev pub message_faults : List ℕ → ℕ → ℕ → Option Shape → List Fault
 message_faults m w most r =
     fault 1 0 (length m ≤ w)
     ∷ fault 2 0 (most < length m)

@@ -1,13 +1,12 @@
 -- Where the parts of a message lie, as the standard says it: no order of
 -- reading, no refusals, no algorithm.
+use Rattle.std.specs.Prelude.{Option, Some}
 use Rattle.std.specs.Prelude.{ℕ, ◌+◌, ◌-◌, ◌≤◌, ◌<◌, ◌≡◌, Bool, true, false, List, [], ◌∷◌, ◌⊎◌, length}
 use Rattle.octets.specs.Octet.{octet}
 use Rattle.runs.specs.Params.{Param, Run}
 use Rattle.parts.specs.declared.Span.{Span}
 use Rattle.layout.specs.declared.Shape.{Shape}
 use Rattle.parts.specs.declared.Parts.{Parts}
-use Rattle.layout.specs.declared.Row.{Row}
-use Rattle.layout.specs.declared.Row.TheVariants.{Has}
 use Rattle.parts.specs.Spans.{span}
 use Rattle.layout.specs.Container.{nothing, start_of, end_of}
 use Rattle.parts.specs.Overlap.{held}
@@ -83,10 +82,10 @@ pub record LaidOut (m : List ℕ) (w : ℕ) (shape : Shape) (p : Parts) (qs : Li
 
 -- a whole message of a family: it has a type octet, is not too long, and
 -- its type's row says its shape
-pub record Framed (m : List ℕ) (w top : ℕ) (row : Row) (p : Parts) : Type 0 where
+pub record Framed (m : List ℕ) (w top : ℕ) (row : Option Shape) (p : Parts) : Type 0 where
   pub shape : Shape
   pub params : List Param
   pub least : w < length m
   pub most : length m ≤ top
-  pub listed : row ≡ Has shape
+  pub listed : row ≡ Some shape
   pub laid : LaidOut m w shape p params

@@ -1,5 +1,4 @@
 pub mod Container
-pub mod Told
 pub mod Laid
 pub mod Faults
 pub mod Places

@@ -1,10 +1,9 @@
 -- R16. The octet that a refusal is about, number by number, as the request says it. How a reader
 -- finds the octet plays no part.
+use Rattle.std.specs.Prelude.{Option, Some}
 use Rattle.std.specs.Prelude.{ℕ, ◌+◌, ◌-◌, ◌≤◌, ◌<◌, ◌≡◌, List, ◌⊎◌, length}
 use Rattle.parts.specs.declared.Span.{Span}
 use Rattle.layout.specs.declared.Shape.{Shape}
-use Rattle.layout.specs.declared.Row.{Row}
-use Rattle.layout.specs.declared.Row.TheVariants.{Has}
 use Rattle.layout.specs.Container.{target, past, start_of, end_of}
 use Rattle.layout.specs.Laid.{Share}
 use Rattle.layout.specs.Faults.{Breaks, NotClosed, VariablePart, OptionalPart}
@@ -42,9 +41,9 @@ module _ (m : List ℕ) (w : ℕ) (s : Shape) where
 
 -- R16. what a reader's refusal is about: 1 and 2 no octet, 3 the type's octet, 4 the message's
 -- length, the others a part
-abbrev pub Place : List ℕ → ℕ → Row → ℕ → ℕ → Type 0
+abbrev pub Place : List ℕ → ℕ → Option Shape → ℕ → ℕ → Type 0
 Place m w r n at =
     ((n < 3) × (at ≡ 0))
     ⊎ ((n ≡ 3) × (at ≡ w))
     ⊎ ((n ≡ 4) × (at ≡ length m))
-    ⊎ ((s : Shape) × (r ≡ Has s) × PartPlace m w s n at)
+    ⊎ ((s : Shape) × (r ≡ Some s) × PartPlace m w s n at)

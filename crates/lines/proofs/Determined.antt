@@ -1,11 +1,11 @@
 -- Any two outcomes that a public function's contract allows are equal.
+use Rattle.octets.specs.Told.{told_by}
+use Rattle.std.specs.Prelude.{Result}
 use Prim.Native.Nat.{ℕ}
 use mathlib.Core.Path.{◌≡◌}
 use mathlib.Core.List.{List, ◌++◌}
 use lib.ListN.{length, take}
 use Rattle.octets.specs.Octet.{octets}
-use Rattle.octets.specs.declared.Written.{Written}
-use Rattle.octets.specs.Told.{written_told}
 use Rattle.octets.proofs.Answer.{one_answer}
 use Rattle.printing.specs.Sheet.{Sheet, sheet, pour}
 use Rattle.printing.specs.Shown.{decimal_of, hex_of}
@@ -45,9 +45,9 @@ pub say-fault-determined : (number place : ℕ) (out : List ℕ) {left rest : Li
 say-fault-determined number place out = sheet-determined
 
 -- what was written
-pub say-written-determined : (written : Written) (buffer out : List ℕ) {left rest : List ℕ} {r q : ℕ} → sheet left r ≡ pour (sheet out 0) (written_line (written_told written) buffer) → sheet rest q ≡ pour (sheet out 0) (written_line (written_told written) buffer) → (left ≡ rest) × (r ≡ q)
-say-written-determined written buffer out = sheet-determined
+pub say-written-determined : {E : Type 0} (number place : E → ℕ) (written : Result ℕ E) (buffer out : List ℕ) {left rest : List ℕ} {r q : ℕ} → sheet left r ≡ pour (sheet out 0) (written_line (told_by number place written) buffer) → sheet rest q ≡ pour (sheet out 0) (written_line (told_by number place written) buffer) → (left ≡ rest) × (r ≡ q)
+say-written-determined number place written buffer out = sheet-determined
 
 -- what was written again
-pub say-again-determined : (written : Written) (buffer out : List ℕ) {left rest : List ℕ} {r q : ℕ} → sheet left r ≡ pour (sheet out 0) (again_line (written_told written) buffer) → sheet rest q ≡ pour (sheet out 0) (again_line (written_told written) buffer) → (left ≡ rest) × (r ≡ q)
-say-again-determined written buffer out = sheet-determined
+pub say-again-determined : {E : Type 0} (number place : E → ℕ) (written : Result ℕ E) (buffer out : List ℕ) {left rest : List ℕ} {r q : ℕ} → sheet left r ≡ pour (sheet out 0) (again_line (told_by number place written) buffer) → sheet rest q ≡ pour (sheet out 0) (again_line (told_by number place written) buffer) → (left ≡ rest) × (r ≡ q)
+say-again-determined number place written buffer out = sheet-determined

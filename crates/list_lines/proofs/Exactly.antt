@@ -1,5 +1,7 @@
 -- The line of a well-formed message shows exactly its declared parameters, in order; of a message
 -- that the reader refuses, the refusal with its octet.
+use Rattle.std.specs.Prelude.{Option, Some, None}
+use Rattle.runs.specs.declared.Field.{Field}
 use Prim.Native.Nat.{ℕ, zero, suc, ◌+◌, ◌*◌, ◌≤◌, ◌<◌}
 use mathlib.Core.Path.{◌≡◌, refl, ap, subst}
 use mathlib.Core.List.{List, [], ◌∷◌, ◌++◌}
@@ -12,8 +14,6 @@ use Rattle.runs.specs.Params.{Param, Params, Closes}
 use Rattle.runs.proofs.Steps.{at-param}
 use Rattle.parts.specs.declared.Parts.{Parts}
 use Rattle.layout.proofs.Exactly.{run-params}
-use Rattle.family.specs.declared.Offer.{Offer}
-use Rattle.family.specs.declared.Offer.TheVariants.{Param as One, Done}
 use Rattle.family.specs.Family.{Family, read_in}
 use Rattle.family.specs.Forms.{FamilyFormed}
 use Rattle.family.specs.Steps.{offer_at_lem, steps_from, start_in, Gives, GivesAll}
@@ -42,12 +42,12 @@ use Rattle.list_lines.specs.Lists.{offer_text, steps_text, list_from, list_in, p
 use Rattle.list_lines.proofs.Stepping.{nothing-shown}
 
 -- an answer that is that parameter shows its name and its contents
-shows-one : (m : List ℕ) (q : Param) (g : Offer) → Gives m q g → offer_text m g ≡ shown " " (q.name ∷ []) ++ shown " " q.contents
-shows-one m q (One f) h = rw (h.0, h.1) refl
-shows-one m q Done h = absurd h
+shows-one : (m : List ℕ) (q : Param) (g : Option Field) → Gives m q g → offer_text m g ≡ shown " " (q.name ∷ []) ++ shown " " q.contents
+shows-one m q (Some f) h = rw (h.0, h.1) refl
+shows-one m q None h = absurd h
 
 -- answers that are those parameters, and enough of them, show them all
-shows-all : (m : List ℕ) (qs : List Param) (gs : List Offer) → length qs ≤ length gs → GivesAll m qs gs → steps_text m gs ≡ params_text qs
+shows-all : (m : List ℕ) (qs : List Param) (gs : List (Option Field)) → length qs ≤ length gs → GivesAll m qs gs → steps_text m gs ≡ params_text qs
 unfolding steps_text params_text
 shows-all m [] gs l h = nothing-shown m gs h
 shows-all m (q ∷ qs) [] l h = absurd (omega arith)

@@ -1,13 +1,12 @@
 -- The lines of list, bicc-list and sccp-list: the optional parameters of a
 -- message, as a cursor's steps give them.
-use Rattle.std.specs.Prelude.{ℕ, List, [], ◌∷◌, ◌++◌, eqb, length}
+use Rattle.std.specs.Prelude.{ℕ, List, [], ◌∷◌, ◌++◌, eqb, length, Option, Some, None}
 use Rattle.octets.specs.Octet.{octets}
 use Rattle.octets.specs.Choice.{when◌then◌else◌}
 use Rattle.octets.specs.Answer.{Answer, accepted, refused}
+use Rattle.runs.specs.declared.Field.{Field}
 use Rattle.runs.specs.Params.{Param}
 use Rattle.parts.specs.declared.Parts.{Parts}
-use Rattle.family.specs.declared.Offer.{Offer}
-use Rattle.family.specs.declared.Offer.TheVariants.{Param as One, Done}
 use Rattle.family.specs.Family.{Family, read_in}
 use Rattle.family.specs.Steps.{offer_at_lem, steps_from, start_in}
 use Rattle.isup.specs.Table.{isup}
@@ -20,20 +19,20 @@ use Rattle.requests.specs.Words.{octets_at}
 use Rattle.lines.specs.Lines.{shown, fault_line}
 
 -- what a step shows: name and contents of the parameter; nothing where it is done
-abbrev pub offer_text : List ℕ → Offer → List ℕ
-offer_text m (One f) = shown " " (f.name ∷ []) ++ shown " " (octets m f.at f.len)
-offer_text m Done = []
+abbrev pub offer_text : List ℕ → Option Field → List ℕ
+offer_text m (Some f) = shown " " (f.name ∷ []) ++ shown " " (octets m f.at f.len)
+offer_text m None = []
 
 -- what steps show, one after the other
-unfoldable pub steps_text : List ℕ → List Offer → List ℕ
+unfoldable pub steps_text : List ℕ → List (Option Field) → List ℕ
 steps_text m [] = []
 steps_text m (g ∷ gs) = offer_text m g ++ steps_text m gs
 
 -- parameters 20 41 21 -, of the steps from octet i on; parameters - where the first says done. A
 -- message has fewer parameters than octets, which bounds the steps
-abbrev pub list_from : List ℕ → ℕ → Offer → List ℕ
-list_from m i (One f) = said "parameters" ++ steps_text m (steps_from (length m) m i)
-list_from m i Done = said "parameters -"
+abbrev pub list_from : List ℕ → ℕ → Option Field → List ℕ
+list_from m i (Some f) = said "parameters" ++ steps_text m (steps_from (length m) m i)
+list_from m i None = said "parameters -"
 
 -- the same by what the reader says of the message: a refusal with its octet
 abbrev pub list_by : List ℕ → ℕ → Answer Parts → List ℕ

@@ -3,6 +3,7 @@
 #![tactic(auto)]
 
 ghost use Rattle.std.specs.Prelude.{◌≡◌, length};
+ghost use Rattle.octets.specs.Told.{told};
 ghost use Rattle.family.specs.Steps.{offer_at_lem, steps_from};
 ghost use Rattle.isup.specs.Table.{isup};
 ghost use Rattle.bicc.specs.Table.{bicc};
@@ -12,16 +13,15 @@ ghost use Rattle.requests.specs.Along.{said_in};
 ghost use Rattle.list_lines.specs.Lists.{offer_text, steps_text, list_from, list_in, list_line_lem};
 ghost use Rattle.list_lines.specs.Inside.{begun_line};
 
-use cursor::Refusal;
-use family::Offer;
 use forms::{BICC_LIST, LIST};
+use octets::{Numbered, Refusal};
 use requests::Request;
 use runs::Field;
 
 // Puts name and contents of a parameter from `at` on, and answers the next place.
 fn put_param(message: &[u8], f: Field, out: &mut [u8], at: usize) -> usize
     ensures { sheet out.new result ≡
-        pour (sheet out.old at) (offer_text message.now (Offer.Param f)) }
+        pour (sheet out.old at) (offer_text message.now (Some f)) }
 {
     let name = sayings::put_shown(b" ", &[f.name], out, at);
     sayings::put_shown(b" ", pieces::stretch(message, f.at, f.len), out, name)
@@ -35,10 +35,11 @@ fn put_steps(message: &[u8], start: usize, out: &mut [u8], at: usize) -> usize
 {
     let mut place = start;
     let mut next = at;
+    // Goes on to the end of the parameter that it read, so it counts no index.
     loop {
         match steps::step_of(message, place) {
-            Offer::Done => return next,
-            Offer::Param(f) => {
+            None => return next,
+            Some(f) => {
                 next = put_param(message, f, out, next);
                 place = f.at + f.len;
             }
@@ -53,8 +54,8 @@ fn say_steps(message: &[u8], start: usize, out: &mut [u8]) -> usize
         (list_from message.now start (offer_at_lem message.now start)) }
 {
     match steps::step_of(message, start) {
-        Offer::Done => printing::put_text(b"parameters -", out, 0),
-        Offer::Param(_) => {
+        None => printing::put_text(b"parameters -", out, 0),
+        Some(_) => {
             let word = printing::put_text(b"parameters", out, 0);
             put_steps(message, start, out, word)
         }
@@ -62,14 +63,14 @@ fn say_steps(message: &[u8], start: usize, out: &mut [u8]) -> usize
 }
 
 // Says what the start gives: the refusal with its octet, or the parameters.
-fn say_list(message: &[u8], refusal: Refusal, start: usize, out: &mut [u8]) -> usize
+fn say_list(message: &[u8], read: Result<(), Refusal>, start: usize, out: &mut [u8]) -> usize
     ensures { sheet out.new result ≡
-        pour (sheet out.old 0) (begun_line message.now refusal start) }
+        pour (sheet out.old 0) (begun_line message.now (told read) start) }
 {
-    if refusal.number == 0 {
-        return say_steps(message, start, out);
+    match read {
+        Ok(()) => say_steps(message, start, out),
+        Err(why) => sayings::say_fault(why.number(), why.place(), out),
     }
-    sayings::say_fault(refusal.number, refusal.place, out)
 }
 
 // Lists an ISUP message.

@@ -14,7 +14,8 @@ ghost use Rattle.boundary.specs.Boundary.{given, given_by, fixed_start_lem};
 ghost use Rattle.llachurep.specs.Gives.{values_of, Small, read_gives, find_gives};
 
 use finding::Located;
-use isup::{Message, Reading};
+use isup::Message;
+use octets::Refusal;
 use parts::Span;
 
 // How many octets a span has.
@@ -66,10 +67,10 @@ pub extern "C" fn llachurep_read(message: &[u8], parts: &mut [u16]) -> u32
         given_by (read_gives message.now parts.old) }
 {
     match isup_codec::read(message) {
-        Reading::Refused(n, at) => telling::refusal(n, at),
-        Reading::Read(x) => {
+        Err(why) => telling::refused(why),
+        Ok(x) => {
             if parts.len() < 10 {
-                return telling::refusal(13, 0);
+                return telling::refused(Refusal::NoRoom);
             }
             put_values(x, parts);
             10
@@ -101,7 +102,7 @@ fn give_stretch(at: usize, len: usize, holder: u32, stretch: &mut [usize]) -> u3
         given_by (done stretch.old (room_for stretch.old (holder, at ∷ len ∷ []))) }
 {
     if stretch.len() < 2 {
-        return telling::refusal(13, 0);
+        return telling::refused(Refusal::NoRoom);
     }
     stretch[0] = at;
     stretch[1] = len;
@@ -122,8 +123,8 @@ pub extern "C" fn llachurep_find(
         given_by (find_gives message.now defaults.now name stretch.old) }
 {
     match locating::locate(message, defaults, name) {
-        Located::Message(at, len) => give_stretch(at, len, 0, stretch),
-        Located::Defaults(at, len) => give_stretch(at, len, 100, stretch),
-        Located::Refused(n, at) => telling::refusal(n, at),
+        Ok(Located::Message(at, len)) => give_stretch(at, len, 0, stretch),
+        Ok(Located::Defaults(at, len)) => give_stretch(at, len, 100, stretch),
+        Err(why) => telling::refused(why),
     }
 }

@@ -7,61 +7,56 @@ ghost use Rattle.finding.specs.Find.{named_in, first_of, sought_in, locate_of, s
 ghost use Rattle.finding.specs.Told.{located_told};
 
 use finding::{Code, Located};
-use isup::Reading;
+use octets::{Numbered, Refusal};
 use parts::Span;
-use runs::Found;
 
 // The first parameter of that name in a message's optional run.
-fn named_in(message: &[u8], run: Span, name: u8) -> Found
+fn named_in(message: &[u8], run: Span, name: u8) -> Option<(usize, usize)>
     ensures { result ≡ named_in message.now run name }
 {
     let from = run.from;
     if from < run.to {
         return runs::named(message, from, name);
     }
-    Found::Nowhere
+    None
 }
 
 // Where the first parameter of that name has its contents: in the message, else in
 // the defaults, an optional run without its closing 0. Refused with the reader's
 // numbers, then 11 for the defaults, then 15.
-pub fn locate(message: &[u8], defaults: &[u8], name: u32) -> Located
+pub fn locate(message: &[u8], defaults: &[u8], name: u32) -> Result<Located, Refusal>
     ensures { located_told result ≡
         locate_of message.now defaults.now name }
 {
-    match isup_codec::read(message) {
-        Reading::Refused(n, at) => Located::Refused(n, at),
-        Reading::Read(x) => {
-            let parts = x.parts;
-            locate_in(message, parts.optional, defaults, name)
-        }
-    }
+    let x = isup_codec::read(message)?;
+    let parts = x.parts;
+    locate_in(message, parts.optional, defaults, name)
 }
 
 // The same in a message that reads, whose optional run is `run`.
-fn locate_in(message: &[u8], run: Span, defaults: &[u8], name: u32) -> Located
+fn locate_in(message: &[u8], run: Span, defaults: &[u8], name: u32) -> Result<Located, Refusal>
     ensures { located_told result ≡
         sought_in message.now run defaults.now name }
 {
     if runs::is_run(defaults) {
         if 255 < name {
-            return Located::Refused(15, 0);
+            return Err(Refusal::NotFound);
         }
         return first_of(message, run, defaults, name as u8);
     }
-    Located::Refused(11, 0)
+    Err(Refusal::BadRun)
 }
 
 // The message's first parameter of that name, else the defaults'.
-fn first_of(message: &[u8], run: Span, defaults: &[u8], name: u8) -> Located
+fn first_of(message: &[u8], run: Span, defaults: &[u8], name: u8) -> Result<Located, Refusal>
     ensures { located_told result ≡
         first_of message.now run defaults.now name }
 {
     match named_in(message, run, name) {
-        Found::At(at, len) => Located::Message(at, len),
-        Found::Nowhere => match runs::named(defaults, 0, name) {
-            Found::At(at, len) => Located::Defaults(at, len),
-            Found::Nowhere => Located::Refused(15, 0),
+        Some((at, len)) => Ok(Located::Message(at, len)),
+        None => match runs::named(defaults, 0, name) {
+            Some((at, len)) => Ok(Located::Defaults(at, len)),
+            None => Err(Refusal::NotFound),
         },
     }
 }
@@ -93,9 +88,9 @@ pub fn find_or_default<'a>(message: &'a [u8], defaults: &'a [u8], name: u32) -> 
         (stretch_length (locate_of message.now defaults.now name)) result }
 {
     match locate(message, defaults, name) {
-        Located::Message(at, len) => &message[at..at + len],
-        Located::Defaults(at, len) => &defaults[at..at + len],
-        Located::Refused(_, _) => &message[0..0],
+        Ok(Located::Message(at, len)) => &message[at..at + len],
+        Ok(Located::Defaults(at, len)) => &defaults[at..at + len],
+        Err(_) => &message[0..0],
     }
 }
 
@@ -105,17 +100,17 @@ pub fn find_or_default_code(message: &[u8], defaults: &[u8], name: u32) -> Code
     ensures { result ≡ code_of (locate_of message.now defaults.now name) }
 {
     match locate(message, defaults, name) {
-        Located::Message(_, _) => Code {
+        Ok(Located::Message(_, _)) => Code {
             number: 0,
             place: 0,
         },
-        Located::Defaults(_, _) => Code {
+        Ok(Located::Defaults(_, _)) => Code {
             number: 100,
             place: 0,
         },
-        Located::Refused(n, at) => Code {
-            number: n,
-            place: at,
+        Err(why) => Code {
+            number: why.number(),
+            place: why.place(),
         },
     }
 }

@@ -1,13 +1,15 @@
 -- The ones of octets, counted octet by octet, are the bits of the status, counted one by one.
 use Prim.Native.Nat.{ℕ, zero, suc, ◌+◌, ◌-◌, ◌*◌, ◌/◌, ◌%◌, ◌^◌, ◌≤◌, ◌<◌}
-use mathlib.Core.Path.{◌≡◌, sym, ◌∙◌, ap}
+use mathlib.Core.Path.{◌≡◌, refl, sym, ◌∙◌, ap}
 use mathlib.Core.List.{List}
 use native.Mathlib.Omega.{arith}
 use native.Mathlib.Nat.{pow-suc, div-div-eq-div-mul, mod-lt, div-one, zero-div}
-use lib.ListN.{length, get_or-eq_default}
+use lib.ListN.{length, take, get_or-eq_default}
 use lib.Count.{ones_in, ones, ones_step}
 use lib.Pow.{pow_pos, field, mod-mod-pow}
-use Rattle.octets.specs.Octet.{octet}
+use Rattle.std.specs.List.{sum_by}
+use Rattle.std.proofs.lemmas.List.Sums.{sum_by_more}
+use Rattle.octets.specs.Octet.{octet, AllOctets}
 use Rattle.octets.specs.Sum.{total}
 use Rattle.octets.proofs.Sum.{total-front, total-same, total-none}
 use Rattle.marks.specs.Marks.{status_bit, cut_to, marks_in_lem}
@@ -47,13 +49,22 @@ cut_ones x k =
 
 module _ (status : List ℕ) where
   -- one octet more
-  pub more-ones : (j n : ℕ) → octet status j < 256 → n ≡ total (status_bit status) 0 (8 * j) → n + ones (octet status j) ≡ total (status_bit status) 0 (8 * (j + 1))
+  more-ones : (j n : ℕ) → octet status j < 256 → n ≡ total (status_bit status) 0 (8 * j) → n + ones (octet status j) ≡ total (status_bit status) 0 (8 * (j + 1))
   more-ones j n h e =
       let p : 8 * (j + 1) ≡ 8 * j + 8 = omega arith in
       let a = total-front (status_bit status) (8 * j) 8 in
       let b = bits_of status j 8 (omega arith) in
       let d = octet-ones (octet status j) 8 h in
       rw p (omega (arith, a, b, d))
+
+  -- the first n octets
+  pub whole-ones : (n : ℕ) → n ≤ length status → AllOctets status → sum_by ones (take n status) ≡ total (status_bit status) 0 (8 * n)
+  unfolding total
+  whole-ones zero h o = refl
+  whole-ones (suc n) h o =
+      let p : suc n ≡ n + 1 = omega arith in
+      let a = sum_by_more ones status n 0 (omega arith) in
+      rw p (a ∙ more-ones n (sum_by ones (take n status)) (o n) (whole-ones n (omega arith) o))
 
   -- with the last octet
   pub last-ones : (r n : ℕ) → n ≡ total (status_bit status) 0 (8 * (r / 8)) → n + ones (cut_to (octet status (r / 8)) r) ≡ marks_in_lem r status

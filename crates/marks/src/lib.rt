@@ -19,13 +19,10 @@ fn ones_in(octets: &[u8], count: usize) -> u8
     requires { (count ≤ length octets.now) × (count ≤ 31) }
     ensures { result ≡ total (status_bit octets.now) 0 (8 * count) }
 {
-    let mut ones = 0u8;
-    let mut j = 0;
-    while j < count {
-        ones += u8::count_ones(octets[j]) as u8;
-        j += 1;
-    }
-    ones
+    octets[..count]
+        .iter()
+        .map(|octet| octet.count_ones() as u8)
+        .sum()
 }
 
 // How many of the circuits m to m+range a status marks: its bits 0 to range that are 1. What is
@@ -68,10 +65,8 @@ fn bits_in(range: u8, j: u8) -> u8
 pub fn locked_octet(range: u8, group: &[u8], j: u8) -> u8
     ensures { result ≡ locked_octet_lem range group.now j }
 {
-    let mut bit = bits_in(range, j);
     let mut octet = 0u8;
-    while bit > 0 {
-        bit -= 1;
+    for bit in (0..bits_in(range, j)).rev() {
         let row = changes::octet_at(group, 8 * j as usize + bit as usize);
         octet = octet * 2 + row / 8 % 2;
     }

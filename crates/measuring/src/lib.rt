@@ -3,10 +3,11 @@
 #![tactic(auto)]
 
 ghost use Rattle.std.specs.Prelude.{◌≡◌, ◌≤◌};
+ghost use Rattle.octets.specs.Told.{told};
 ghost use Rattle.measuring.specs.Measure.{lacks_of, unfit_of, count_of, gap, reach, pointers_of_lem, too_long_lem, beyond_of, too_far_lem, run_size_lem, size_of, measure_of};
-ghost use Rattle.measuring.specs.Told.{measured_told};
 
 use layout::Shape;
+use octets::Refusal;
 
 // The most that a length octet or a pointer can say.
 const LARGEST: usize = 255;
@@ -37,13 +38,6 @@ pub struct Pointers {
 pub struct Frame {
     pub pointers: Pointers,
     pub size: usize,
-}
-
-// The compact form's frame, or the refusal's number.
-#[derive(Clone, Copy)]
-pub enum Measured {
-    Fits(Frame),
-    Refused(u8),
 }
 
 // Whether there are contents for the k-th variable part of a type that has no such part.
@@ -193,24 +187,24 @@ fn size_of(shape: Shape, lengths: Lengths) -> usize
 
 // The compact form's frame: 12 where a length or a pointer is more than an octet can say, then 2
 // where there are more octets than `most`.
-pub fn measure(shape: Shape, most: u16, lengths: Lengths) -> Measured
-    ensures { measured_told result ≡ measure_of shape most lengths }
+pub fn measure(shape: Shape, most: u16, lengths: Lengths) -> Result<Frame, Refusal>
+    ensures { told result ≡ measure_of shape most lengths }
 {
     if too_long(lengths) {
-        return Measured::Refused(12);
+        return Err(Refusal::TooFar);
     }
     let pointers = pointers_of(shape, lengths);
     let longest = most as usize;
     if too_far(shape.vars, pointers) {
-        return Measured::Refused(12);
+        return Err(Refusal::TooFar);
     } else if longest < lengths.head {
-        return Measured::Refused(2);
+        return Err(Refusal::TooLong);
     } else if longest < lengths.run {
-        return Measured::Refused(2);
+        return Err(Refusal::TooLong);
     }
     let size = size_of(shape, lengths);
     if longest < size {
-        return Measured::Refused(2);
+        return Err(Refusal::TooLong);
     }
-    Measured::Fits(Frame { pointers, size })
+    Ok(Frame { pointers, size })
 }

@@ -2,13 +2,14 @@
 #![tactic(auto)]
 
 ghost use Rattle.std.specs.Prelude.{◌≡◌};
+ghost use Rattle.octets.specs.Answer.{accepted};
 ghost use Rattle.parts.specs.Spans.{part_of};
 ghost use Rattle.isup.specs.Read.{read_of};
-ghost use Rattle.isup.specs.Told.{reading_told};
 ghost use Rattle.printing.specs.Sheet.{sheet, pour};
 ghost use Rattle.read_lines.specs.Read.{parts_line, read_line};
 
-use isup::{Message, Reading};
+use isup::Message;
+use octets::Numbered;
 use parts::{Parts, Span};
 
 // The octets of a span of a message, as many of them as there are.
@@ -39,7 +40,7 @@ pub fn put_parts(message: &[u8], parts: Parts, out: &mut [u8], at: usize) -> usi
 fn say_message(message: &[u8], x: Message, out: &mut [u8]) -> usize
     ensures { sheet out.new result ≡
         pour (sheet out.old 0)
-        (read_line message.now (reading_told (Reading.Read x))) }
+        (read_line message.now (accepted x)) }
 {
     let parts = x.parts;
     let circuit = sayings::put_count(b"circuit ", x.circuit as usize, out, 0);
@@ -54,7 +55,7 @@ pub fn say_read(message: &[u8], out: &mut [u8]) -> usize
         (read_line message.now (read_of message.now)) }
 {
     match isup_codec::read(message) {
-        Reading::Refused(n, at) => sayings::say_fault(n, at, out),
-        Reading::Read(x) => say_message(message, x, out),
+        Err(why) => sayings::say_fault(why.number(), why.place(), out),
+        Ok(x) => say_message(message, x, out),
     }
 }

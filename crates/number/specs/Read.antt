@@ -4,8 +4,6 @@ use Rattle.octets.specs.Choice.{when◌then◌else◌}
 use Rattle.octets.specs.Answer.{Answer, accepted, refused, ◌then◌}
 use Rattle.octets.specs.Filled.{Done, done, room_for}
 use Rattle.number.specs.declared.Number.{Number}
-use Rattle.number.specs.declared.NumberRead.{NumberRead}
-use Rattle.number.specs.declared.NumberRead.TheVariants.{Read, Refused}
 use Rattle.number.specs.Contents.{odd_bit, nature_in, internal_in, plan_in, half_count, count_in, filler_in, signals_in}
 
 -- the values that the contents have beside the signals
@@ -31,8 +29,3 @@ number_in contents =
 -- all that reading does: the answer, and the buffer with the signals at its front
 abbrev pub read_number_of : List ℕ → List ℕ → Done Number
 read_number_of contents buffer = done buffer (number_in contents then room_for buffer)
-
--- the paper's values or number for each case of the answer
-abbrev pub read_answer : NumberRead → Answer Number
-read_answer (Read number) = accepted number
-read_answer (Refused n) = refused n 0

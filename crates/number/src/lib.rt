@@ -1,4 +1,4 @@
-// A called party number: definitions and theorems alone, and what reading one answers.
+// A called party number: definitions and theorems, and the values of one.
 #![tactic(auto)]
 
 // How many signals a number has at the most.
@@ -12,11 +12,4 @@ pub struct Number {
     pub plan: u8,
     pub internal: u8,
     pub count: usize,
-}
-
-// What reading answers: the values, or the number of the refusal.
-#[derive(Clone, Copy)]
-pub enum NumberRead {
-    Read(Number),
-    Refused(u8),
 }

@@ -2,7 +2,8 @@
 #![tactic(auto)]
 
 ghost use Rattle.std.specs.Prelude.{◌≡◌};
-ghost use Rattle.number.specs.Read.{read_answer, read_number_of};
+ghost use Rattle.octets.specs.Told.{told};
+ghost use Rattle.number.specs.Read.{read_number_of};
 ghost use Rattle.dialling.specs.Write.{write_number_of};
 ghost use Rattle.printing.specs.Sheet.{sheet, pour};
 ghost use Rattle.requests.specs.Along.{said_in};
@@ -10,18 +11,20 @@ ghost use Rattle.lines.specs.Lines.{octets_line, lent};
 ghost use Rattle.number_lines.specs.Numbers.{signals_line, number_line, numbers_line_lem};
 
 use forms::NUMBER;
-use number::NumberRead;
+use number::Number;
+use octets::{Numbered, Refusal};
 use requests::Request;
 
 // What reading a number found, its signals at the front of a buffer.
-fn say_values(values: NumberRead, buffer: &[u8], out: &mut [u8]) -> usize
+#[tactic(auto, unfolding(crate::specs::Numbers::signals_line))]
+fn say_values(values: Result<Number, Refusal>, buffer: &[u8], out: &mut [u8]) -> usize
     ensures { sheet out.new result ≡
         pour (sheet out.old 0)
-        (signals_line (read_answer values) buffer.now) }
+        (signals_line (told values) buffer.now) }
 {
     match values {
-        NumberRead::Refused(n) => sayings::say_refusal(n, out),
-        NumberRead::Read(x) => {
+        Err(why) => sayings::say_refusal(why.number(), out),
+        Ok(x) => {
             let nature = sayings::put_count(b"nature ", x.nature as usize, out, 0);
             let plan = sayings::put_count(b" plan ", x.plan as usize, out, nature);
             let internal = sayings::put_count(b" internal ", x.internal as usize, out, plan);
@@ -68,6 +71,7 @@ fn say_dial(
 
 // Puts the answer's line to a request for a called party number at the front of `out`, and answers
 // the next place. What `out` has no room for is left out.
+#[tactic(auto, unfolding(crate::specs::Numbers::numbers_line_lem))]
 pub fn numbers_line(request: Request, octets: &[u8], out: &mut [u8]) -> usize
     ensures { sheet out.new result ≡
         pour (sheet out.old 0)

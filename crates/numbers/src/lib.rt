@@ -8,7 +8,7 @@ ghost use Rattle.dialling.specs.Write.{write_number_of};
 ghost use Rattle.boundary.specs.Boundary.{given, given_by};
 ghost use Rattle.numbers.specs.Numbers.{number_given};
 
-use number::NumberRead;
+use octets::Numbered;
 
 // Reads a called party number, its signals to the front of `signals`. Answers 4294967296 * N +
 // 65536 * nature + 4096 * internal + 256 * plan + count. Refused with 14, then 13.
@@ -18,8 +18,8 @@ pub extern "C" fn llachurep_number_read(contents: &[u8], signals: &mut [u8]) -> 
         number_given (read_number_of contents.now signals.old) }
 {
     match signals::read_number(contents, signals) {
-        NumberRead::Refused(n) => 4294967296 * n as u64,
-        NumberRead::Read(x) => {
+        Err(why) => 4294967296 * why.number() as u64,
+        Ok(x) => {
             65536 * x.nature as u64
                 + 4096 * x.internal as u64
                 + 256 * x.plan as u64

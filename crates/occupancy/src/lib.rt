@@ -8,7 +8,7 @@ ghost use Rattle.totals.specs.Question.{busy_between_lem};
 ghost use Rattle.boundary.specs.Boundary.{given, given_by};
 ghost use Rattle.occupancy.specs.Occupancy.{packed_count};
 
-use totals::Asked;
+use octets::Numbered;
 
 // How many of the circuits from the first to the last are busy. Answers 4294967296 *
 // N + 65536 * looked + count: `looked` is how many totals and rows were looked at,
@@ -19,8 +19,8 @@ pub extern "C" fn llachurep_busy(states: &[u8], totals: &[u8], first: u32, last:
         packed_count (busy_between_lem states.now totals.now first last) }
 {
     match blocks::busy_between(states, totals, first, last) {
-        Asked::Refused(n) => 4294967296 * n as u64,
-        Asked::Busy(x) => 65536 * x.looked as u64 + x.count as u64,
+        Err(why) => 4294967296 * why.number() as u64,
+        Ok(x) => 65536 * x.looked as u64 + x.count as u64,
     }
 }
 

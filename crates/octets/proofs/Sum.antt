@@ -17,11 +17,6 @@ total-more f e (suc n) k =
     let q : suc n + k ≡ suc (n + k) = omega arith in
     rw (p, q) (omega (arith, total-more f (suc e) n k))
 
--- one more at the end
-pub total-last : (f : ℕ → ℕ) (e n : ℕ) → total f e (n + 1) ≡ total f e n + f (e + n)
-unfolding total
-total-last f e n = omega (arith, total-more f e n 1)
-
 -- from the start
 pub total-front : (f : ℕ → ℕ) (n k : ℕ) → total f 0 (n + k) ≡ total f 0 n + total f n k
 total-front f n k =

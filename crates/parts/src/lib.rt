@@ -2,8 +2,10 @@
 #![tactic(auto)]
 
 ghost use Rattle.std.specs.Prelude.{◌≡◌};
+ghost use Rattle.octets.specs.Told.{told};
 ghost use Rattle.parts.specs.Overlap.{shares_of, later, contents_of_lem, run_of, judged};
-ghost use Rattle.parts.specs.Told.{body_told};
+
+use octets::Refusal;
 
 // Octets from `from` up to and not including `to`. 0..0 stands for a part that is not there.
 #[derive(Clone, Copy)]
@@ -21,13 +23,6 @@ pub struct Parts {
     pub second: Span,
     pub third: Span,
     pub optional: Span,
-}
-
-// The parts of a message, or the refusal's number and the octet that it is about.
-#[derive(Clone, Copy)]
-pub enum Body {
-    Laid(Parts),
-    Broken(u8, usize),
 }
 
 // Whether the two share an octet.
@@ -77,28 +72,28 @@ fn run_of(part: Span) -> Span
 }
 
 // The same, with every pair looked at.
-fn judge_pairs(fixed: Span, a: Span, b: Span, c: Span, d: Span) -> Body
-    ensures { body_told result ≡ judged fixed a b c d }
+fn judge_pairs(fixed: Span, a: Span, b: Span, c: Span, d: Span) -> Result<Parts, Refusal>
+    ensures { told result ≡ judged fixed a b c d }
 {
     if shares(a, b) {
-        return Body::Broken(8, later_start(a, b));
+        return Err(Refusal::SharedOctet(later_start(a, b)));
     }
     if shares(a, c) {
-        return Body::Broken(8, later_start(a, c));
+        return Err(Refusal::SharedOctet(later_start(a, c)));
     }
     if shares(a, d) {
-        return Body::Broken(8, later_start(a, d));
+        return Err(Refusal::SharedOctet(later_start(a, d)));
     }
     if shares(b, c) {
-        return Body::Broken(8, later_start(b, c));
+        return Err(Refusal::SharedOctet(later_start(b, c)));
     }
     if shares(b, d) {
-        return Body::Broken(8, later_start(b, d));
+        return Err(Refusal::SharedOctet(later_start(b, d)));
     }
     if shares(c, d) {
-        return Body::Broken(8, later_start(c, d));
+        return Err(Refusal::SharedOctet(later_start(c, d)));
     }
-    Body::Laid(Parts {
+    Ok(Parts {
         fixed,
         first: contents_of(a),
         second: contents_of(b),
@@ -112,13 +107,13 @@ fn judge_pairs(fixed: Span, a: Span, b: Span, c: Span, d: Span) -> Body
 // with the later start where two of them share an octet: the first pair that does, in
 // pointer order, by first member and then by second.
 // Where the first part is the only one, there is no pair to look at.
-pub fn judge(fixed: Span, a: Span, b: Span, c: Span, d: Span) -> Body
-    ensures { body_told result ≡ judged fixed a b c d }
+pub fn judge(fixed: Span, a: Span, b: Span, c: Span, d: Span) -> Result<Parts, Refusal>
+    ensures { told result ≡ judged fixed a b c d }
 {
     if b.to == 0 {
         if c.to == 0 {
             if d.to == 0 {
-                return Body::Laid(Parts {
+                return Ok(Parts {
                     fixed,
                     first: contents_of(a),
                     second: contents_of(b),

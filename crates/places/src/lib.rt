@@ -9,18 +9,17 @@ ghost use Rattle.bicc.specs.Table.{bicc};
 ghost use Rattle.sccp.specs.Table.{sccp};
 
 use cursor::Cursor;
-use layout::Row;
-use parts::Body;
+use layout::Shape;
 
 // Where stepping starts: the first octet of the optional run; past the message where it has none,
 // or where the reader refuses it.
-fn place_in(message: &[u8], width: u8, most: usize, row: Row) -> usize
+fn place_in(message: &[u8], width: u8, most: usize, row: Option<Shape>) -> usize
     ensures { result ≡
         start_by message.now (parts_of message.now width most row) }
 {
     match reading::read_parts(message, width, most, row) {
-        Body::Broken(_, _) => message.len(),
-        Body::Laid(parts) => {
+        Err(_) => message.len(),
+        Ok(parts) => {
             let run = parts.optional;
             let from = run.from;
             if from < run.to {

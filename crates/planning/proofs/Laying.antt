@@ -8,24 +8,27 @@ use native.Mathlib.Omega.{arith}
 use borrow.Author.Tests.{eq-eqb, ne_eqb, lt-ltb, le-ltb}
 use lib.ListN.{length, length-append}
 use lib.Seq.{sets}
-use Rattle.octets.specs.Answer.{accepted, refused}
-use Rattle.octets.specs.Filled.{leaving}
+use Rattle.std.specs.Prelude.{Result, Ok, Err, is_some}
+use Rattle.octets.specs.Answer.{Answer, accepted, refused}
+use Rattle.octets.specs.Choice.{when◌then◌else◌}
+use Rattle.octets.specs.Filled.{done, leaving}
+use Rattle.octets.specs.Told.{refusal_number, refusal_place, told}
+use Rattle.octets.specs.declared.Refusal.{Refusal}
+use Rattle.octets.specs.declared.Refusal.TheVariants.{IllegalRow, NoPlan}
 use Rattle.octets.proofs.Choice.{decided}
 use Rattle.octets.proofs.Filled.{sets-filled}
 use Rattle.writing.proofs.Storing.{sets-append}
 use Rattle.rights.specs.Tables.{Tables}
-use Rattle.rights.specs.Rights.{first_illegal_lem, is_found}
+use Rattle.rights.specs.Rights.{first_illegal_lem}
 use Rattle.plans.specs.Turns.{may_block_lem}
 use Rattle.plans.specs.Frames.{framed}
 use Rattle.plans.specs.Plans.{ticked, messages}
-use Rattle.surveys.specs.declared.Survey.{Survey}
-use Rattle.surveys.specs.declared.Survey.TheVariants.{Illegal, Stuck, Ticked}
 use Rattle.surveys.specs.Surveys.{tick_count, can_plan, is_stuck, survey_of}
 use Rattle.planning.specs.Planner.{in_row, step_for, plan_from, plan_of}
 use Rattle.planning.specs.Outcome.{frame, PlanReady, plan_for, planned_in, planned_of}
 use Rattle.planning.proofs.Runs.{row-most, row-ticked, row-some, ticked-low, plan-room}
 use Rattle.planning.proofs.Stuck.{unstuck-is, can-plan-so}
-use Rattle.surveys.proofs.Looks.{tally-most, told-illegal, told-stuck, told-ticked, past-table}
+use Rattle.surveys.proofs.Looks.{tally-most, told-ticked, past-table}
 use Rattle.planning.proofs.Counts.{row_ends}
 
 -- ---- what is left to lay
@@ -160,19 +163,21 @@ module _ (T : Tables) (ticks : List ℕ) (sender kind : ℕ) (buffer : List ℕ)
           unfolding planned_of planned_in
           out-kind h = rw (eq-eqb _ _ p, eq-eqb _ _ q, eq-eqb _ _ x, eq-eqb _ _ r, lt-ltb _ _ h)
 
-          module _ (k : kind ≤ 1) (s : Survey) (e : s ≡ survey_of T.states kind (may_block_lem kind T.owners T.helpers sender) (ticked ticks)) where
-            pub out-illegal : s ≡ Illegal → leaving (refused 20 0) buffer ≡ planned_of T ticks sender kind buffer
-            unfolding planned_of planned_in
-            out-illegal h = rw (eq-eqb _ _ p, eq-eqb _ _ q, eq-eqb _ _ x, eq-eqb _ _ r, le-ltb _ _ k, told-illegal T.states kind (may_block_lem kind T.owners T.helpers sender) (ticked ticks) (sym e ∙ h))
+          module _ (k : kind ≤ 1) (s : Result ℕ Refusal) (e : s ≡ survey_of T.states kind (may_block_lem kind T.owners T.helpers sender) (ticked ticks)) where
+            pub out-refused : (why : Refusal) → s ≡ Err why → leaving (refused (refusal_number why) (refusal_place why)) buffer ≡ planned_of T ticks sender kind buffer
+            unfolding planned_of planned_in survey_of
+            out-refused why h =
+                let w : survey_of T.states kind (may_block_lem kind T.owners T.helpers sender) (ticked ticks) ≡ Err why = sym e ∙ h in
+                rw (eq-eqb _ _ p, eq-eqb _ _ q, eq-eqb _ _ x, eq-eqb _ _ r, le-ltb _ _ k) (go (is_some (first_illegal_lem T.states 0 4096)) (is_stuck kind (may_block_lem kind T.owners T.helpers sender) (ticked ticks)) _ _ w)
+              where
+                go : (i j : Bool) (n : ℕ) (y : Answer (ℕ × List ℕ)) → ◌≡◌ {A = Result ℕ Refusal} (when i then Err IllegalRow else (when j then Err NoPlan else Ok n)) (Err why)
+                    → leaving (refused (refusal_number why) (refusal_place why)) buffer ≡ done buffer (when i then refused 20 0 else (when j then refused 25 0 else y))
+                go true j n y w = ap (λ (z : Result ℕ Refusal). leaving (told z) buffer) (sym w)
+                go false true n y w = ap (λ (z : Result ℕ Refusal). leaving (told z) buffer) (sym w)
+                go false false n y w = absurd cc
 
-            pub out-stuck : s ≡ Stuck → leaving (refused 25 0) buffer ≡ planned_of T ticks sender kind buffer
-            unfolding planned_of planned_in
-            out-stuck h =
-                let t = told-stuck T.states kind (may_block_lem kind T.owners T.helpers sender) (ticked ticks) (sym e ∙ h) in
-                rw (eq-eqb _ _ p, eq-eqb _ _ q, eq-eqb _ _ x, eq-eqb _ _ r, le-ltb _ _ k, t.0, t.1)
-
-            module _ (count : ℕ) (h : s ≡ Ticked count) where
-              counted : (is_found (first_illegal_lem T.states 0 4096) ≡ false) × (is_stuck kind (may_block_lem kind T.owners T.helpers sender) (ticked ticks) ≡ false) × (count ≡ tick_count (ticked ticks) 0 4096)
+            module _ (count : ℕ) (h : s ≡ Ok count) where
+              counted : (is_some (first_illegal_lem T.states 0 4096) ≡ false) × (is_stuck kind (may_block_lem kind T.owners T.helpers sender) (ticked ticks) ≡ false) × (count ≡ tick_count (ticked ticks) 0 4096)
               counted = told-ticked T.states kind (may_block_lem kind T.owners T.helpers sender) (ticked ticks) count (sym e ∙ h)
 
               pub count-within : count ≤ 4096

@@ -8,22 +8,23 @@ use native.Mathlib.Omega.{arith}
 use borrow.Author.Tests.{eqb-true, eqb-false, ltb-true, ltb-false}
 use lib.Dec.{ltb, eqb}
 use lib.ListN.{length, take}
+use Rattle.std.specs.Prelude.{Result, is_some}
 use Rattle.octets.specs.Octet.{octet}
 use Rattle.octets.specs.Choice.{when◌then◌else◌}
 use Rattle.octets.specs.Answer.{accepted, refused}
-use Rattle.octets.specs.Filled.{Done, leaving}
+use Rattle.octets.specs.Filled.{leaving}
 use Rattle.octets.specs.Faults.{fault, Judges}
+use Rattle.octets.specs.Told.{told}
+use Rattle.octets.specs.declared.Refusal.{Refusal}
 use Rattle.octets.proofs.Answer.{refused-accepted, accepted-same, past-test}
 use Rattle.octets.proofs.Choice.{chosen, true-false}
 use Rattle.octets.proofs.Faults.{judges-if, judges-there, judges-absent, judges-done}
-use Rattle.octets.proofs.Filled.{done-accepted, done-kept, take-filled}
-use Rattle.octets.specs.Told.{written_told}
-use Rattle.octets.specs.declared.Written.{Written}
-use Rattle.octets.proofs.Told.{written-told-injective}
+use Rattle.octets.proofs.Filled.{done-accepted, take-filled}
+use Rattle.octets.proofs.Told.{writing-determined, writing-keeps}
 use Rattle.rows.specs.Rows.{is_legal}
 use Rattle.rows.proofs.Legality.{legal-is, is-legal}
 use Rattle.rights.specs.Tables.{Tables, sized}
-use Rattle.rights.specs.Rights.{first_illegal_lem, is_found}
+use Rattle.rights.specs.Rights.{first_illegal_lem}
 use Rattle.hub.specs.Acts.{judged_of}
 use Rattle.rights.specs.Faults.{WrongTables}
 use Rattle.rights.proofs.Meaning.{found_none, found_some}
@@ -74,7 +75,7 @@ module _ (T : Tables) (ticks : List ℕ) (sender kind : ℕ) where
   abbrev found : List ℕ
   found = plan_for T.owners T.helpers ticks sender kind
 
-  all-legal : is_found (first_illegal_lem T.states 0 4096) ≡ false → AllLegal T.states
+  all-legal : is_some (first_illegal_lem T.states 0 4096) ≡ false → AllLegal T.states
   all-legal e c h = found_none (λ j. is_legal (octet T.states j)) 0 4096 e c (omega arith) (omega arith)
 
   module _ (s : Sized T ticks) (k : kind ≤ 1) (l : AllLegal T.states) where
@@ -119,7 +120,7 @@ module _ (T : Tables) (ticks : List ℕ) (sender kind : ℕ) where
   plan-judges room = go (sized_all T ticks) refl
     where
       go : (t : Bool) → sized_all T ticks ≡ t
-          → Judges {A = ℕ × List ℕ} (when t then (when ltb 1 kind then refused 14 0 else (when is_found (first_illegal_lem T.states 0 4096) then refused 20 0 else (when is_stuck kind can (ticked ticks) then refused 25 0 else (when ltb room (9 * tick_count (ticked ticks) 0 4096) then refused 13 0 else accepted (length found, found))))) else refused 16 0)
+          → Judges {A = ℕ × List ℕ} (when t then (when ltb 1 kind then refused 14 0 else (when is_some (first_illegal_lem T.states 0 4096) then refused 20 0 else (when is_stuck kind can (ticked ticks) then refused 25 0 else (when ltb room (9 * tick_count (ticked ticks) 0 4096) then refused 13 0 else accepted (length found, found))))) else refused 16 0)
           (plan_faults T ticks sender kind room)
       go false e = judges-there (fault 16 0 _) _ 0 (refl, wrong-is T ticks e) (λ at h. h.0)
       go true e =
@@ -127,7 +128,7 @@ module _ (T : Tables) (ticks : List ℕ) (sender kind : ℕ) where
           judges-absent (fault 16 0 _) (λ at h. ⊎_elim (⊎_elim (λ x. x s.for-states) (⊎_elim (λ x. x s.for-owners) (λ x. x s.for-helpers))) (λ x. x s.for-ticks) h.1)
           (judges-if (ltb 1 kind) (ltb-true 1 kind) (λ t x. (let y = ltb-false 1 kind t in omega arith))
           (λ k.
-          judges-if (is_found (first_illegal_lem T.states 0 4096))
+          judges-if (is_some (first_illegal_lem T.states 0 4096))
           (λ t. (let f = found_some (λ j. is_legal (octet T.states j)) 0 4096 t in (f.0, omega (arith, f.1.within), λ h. true-false (is-legal _ h) f.1.bad)))
           (λ t x. x.2 (legal-is _ (all-legal t x.0 x.1)))
           (λ l.
@@ -147,7 +148,7 @@ module _ (T : Tables) (ticks : List ℕ) (sender kind : ℕ) where
       (λ a.
       let s = sized-is T ticks a.0 in
       let k = past-test 14 0 (ltb 1 kind) a.1 in
-      let l = past-test 20 0 (is_found (first_illegal_lem T.states 0 4096)) k.1 in
+      let l = past-test 20 0 (is_some (first_illegal_lem T.states 0 4096)) k.1 in
       let u = past-test 25 0 (is_stuck kind can (ticked ticks)) l.1 in
       let r = past-test 13 0 (ltb room (9 * tick_count (ticked ticks) 0 4096)) u.1 in
       let q = accepted-same r.1 in
@@ -181,10 +182,8 @@ module _ (T : Tables) (ticks : List ℕ) (sender kind : ℕ) where
   -- a refusal keeps every octet
   pub plan-keeps : (buffer : List ℕ) (n at : ℕ) (left : List ℕ) → leaving (refused n at) left ≡ planned_of T ticks sender kind buffer → left ≡ buffer
   unfolding planned_of
-  plan-keeps buffer n at left e = ap (λ (d : Done ℕ). d.left) e ∙ done-kept buffer (planned_in T ticks sender kind (length buffer)) (sym (ap (λ (d : Done ℕ). d.answer) e))
+  plan-keeps buffer = writing-keeps buffer (planned_in T ticks sender kind (length buffer))
 
   -- the contract leaves no choice
-  pub plan-determined : (buffer : List ℕ) (r s : Written) (x y : List ℕ) → leaving (written_told r) x ≡ planned_of T ticks sender kind buffer → leaving (written_told s) y ≡ planned_of T ticks sender kind buffer → (r ≡ s) × (x ≡ y)
-  plan-determined buffer r s x y p q =
-      let e = p ∙ sym q in
-      (written-told-injective r s (ap (λ (d : Done ℕ). d.answer) e), ap (λ (d : Done ℕ). d.left) e)
+  pub plan-determined : (buffer : List ℕ) (r s : Result ℕ Refusal) (x y : List ℕ) → leaving (told r) x ≡ planned_of T ticks sender kind buffer → leaving (told s) y ≡ planned_of T ticks sender kind buffer → (r ≡ s) × (x ≡ y)
+  plan-determined buffer = writing-determined (planned_of T ticks sender kind buffer)

@@ -1,5 +1,5 @@
 -- The planner, all of it: the answer and the lent buffer afterwards. Order: 16, 14, 20, 25, 13.
-use Rattle.std.specs.Prelude.{ℕ, ◌*◌, ◌≤◌, ◌<◌, ◌≡◌, Bool, false, List, [], ◌∷◌, ◌⊎◌, ltb, eqb, length}
+use Rattle.std.specs.Prelude.{ℕ, ◌*◌, ◌≤◌, ◌<◌, ◌≡◌, Bool, false, List, [], ◌∷◌, ◌⊎◌, ltb, eqb, is_some, length}
 use Rattle.octets.specs.Octet.{octet}
 use Rattle.octets.specs.Choice.{when◌then◌else◌}
 use Rattle.octets.specs.Answer.{Answer, accepted, refused}
@@ -7,7 +7,7 @@ use Rattle.octets.specs.Filled.{Done, done}
 use Rattle.octets.specs.Faults.{Fault, fault}
 use Rattle.rows.specs.Rows.{Legal}
 use Rattle.rights.specs.Tables.{Tables, sized}
-use Rattle.rights.specs.Rights.{first_illegal_lem, is_found}
+use Rattle.rights.specs.Rights.{first_illegal_lem}
 use Rattle.rights.specs.Faults.{WrongTables}
 use Rattle.plans.specs.Plans.{ticked}
 use Rattle.plans.specs.Turns.{may_block_lem, GoodPlan}
@@ -41,7 +41,7 @@ unfoldable pub planned_in : Tables → List ℕ → ℕ → ℕ → ℕ → Answ
 planned_in T ticks sender kind room =
     when sized_all T ticks then
     (when ltb 1 kind then refused 14 0
-    else (when is_found (first_illegal_lem T.states 0 4096) then refused 20 0
+    else (when is_some (first_illegal_lem T.states 0 4096) then refused 20 0
     else (when is_stuck kind (may_block_lem kind T.owners T.helpers sender) (ticked ticks)
     then refused 25 0
     else (when ltb room (9 * tick_count (ticked ticks) 0 4096) then refused 13 0

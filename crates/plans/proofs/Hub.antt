@@ -9,6 +9,7 @@ use native.Mathlib.Omega.{arith}
 use borrow.Author.Tests.{eqb-true, eq-eqb}
 use lib.Dec.{eqb}
 use lib.ListN.{length}
+use Rattle.std.specs.Prelude.{is_some}
 use Rattle.octets.specs.Octet.{octet}
 use Rattle.octets.specs.Choice.{when◌then◌else◌}
 use Rattle.octets.specs.Answer.{accepted, ◌then◌}
@@ -22,7 +23,7 @@ use Rattle.asks.proofs.Reading.{ask-read, asked_is, ask-last, whole-group, conte
 use Rattle.isup.proofs.Exactly.{read-exactly}
 use Rattle.replies.specs.Replies.{reply_length}
 use Rattle.rights.specs.Tables.{Tables}
-use Rattle.rights.specs.Rights.{is_mine, has_right, may_help, first_foreign_lem, first_unowned_lem, first_illegal_lem, is_found}
+use Rattle.rights.specs.Rights.{is_mine, has_right, may_help, first_foreign_lem, first_unowned_lem, first_illegal_lem}
 use Rattle.rights.specs.Permits.{is_taken, is_unhelpable}
 use Rattle.hub.specs.Acts.{judged_of}
 use Rattle.rights.specs.Names.{Named}
@@ -112,7 +113,7 @@ module _ (T : Tables) (sender : ℕ) where
       (λ (t : eqb kind 0 ≡ true).
       rw t (found_none (has_right T.owners T.helpers sender) a.circuit (a.range + 1) g.right c n.0 (omega (arith, n.1))))
       (λ (t : eqb kind 0 ≡ false).
-      let u : is_found (first_unowned_lem T.owners sender a.circuit (a.range + 1)) ≡ false = ap (λ (b : Bool). when b then false else is_found (first_unowned_lem T.owners sender a.circuit (a.range + 1))) (sym (h ∙ t)) ∙ g.helps in
+      let u : is_some (first_unowned_lem T.owners sender a.circuit (a.range + 1)) ≡ false = ap (λ (b : Bool). when b then false else is_some (first_unowned_lem T.owners sender a.circuit (a.range + 1))) (sym (h ∙ t)) ∙ g.helps in
       rw t (found_none (is_mine T.owners sender) a.circuit (a.range + 1) u c n.0 (omega (arith, n.1))))
       (decided (eqb kind 0))
 
@@ -137,8 +138,8 @@ module _ (T : Tables) (sender : ℕ) where
 
   -- ---- what the hub takes
   pub judged-from : length T.states ≡ 4096 → length T.owners ≡ 4096 → length T.helpers ≡ 4096 → (kind : ℕ) (m : List ℕ) (a : Ask) → ask_of m ≡ accepted a → fits_kind kind a ≡ true
-      → is_found (first_foreign_lem T.owners T.helpers sender a.circuit (a.range + 1)) ≡ false → is_unhelpable T sender a ≡ false
-      → is_found (first_illegal_lem T.states a.circuit (a.range + 1)) ≡ false → judged_of T sender m ≡ accepted a
+      → is_some (first_foreign_lem T.owners T.helpers sender a.circuit (a.range + 1)) ≡ false → is_unhelpable T sender a ≡ false
+      → is_some (first_illegal_lem T.states a.circuit (a.range + 1)) ≡ false → judged_of T sender m ≡ accepted a
   unfolding judged_of
   judged-from p q h kind m a e f r u s =
       rw (eq-eqb _ _ p, eq-eqb _ _ q, eq-eqb _ _ h, e)

@@ -10,11 +10,10 @@ use lib.ListN.{length, drop, set, replicate, length-drop}
 use lib.Seq.{drop-cons, drop-drop}
 use Rattle.octets.specs.Octet.{octet, octets}
 use Rattle.octets.specs.Answer.{Answer, accepted, refused, ◌then◌}
-use Rattle.layout.specs.Container.{bit}
 use Rattle.asks.specs.declared.Ask.{Ask}
 use Rattle.asks.specs.Asks.{mark_of}
-use Rattle.plans.specs.Plans.{ticked, fits_kind}
-use Rattle.plans.specs.Check.{seeing, taking, told, hearing, walk, agree, agreeing, check_of}
+use Rattle.plans.specs.Plans.{fits_kind}
+use Rattle.plans.specs.Check.{seeing, taking, told_seen, hearing, walk, agreeing, check_of}
 use Rattle.rights.specs.Tables.{Tables}
 use Rattle.hub.specs.Acts.{judged_of}
 use Rattle.plans.specs.Turns.{check_at}
@@ -41,19 +40,6 @@ module _ (m : List ℕ) (circuit status : ℕ) where
   pub see-unmarked : (i n k : ℕ) (seen : List ℕ) (b : Bool) → n ≡ suc k → b ≡ mark_of m status i → b ≡ false → seeing marking (circuit + i) n seen ≡ seeing marking (circuit + (i + 1)) k seen
   unfolding seeing
   see-unmarked i n k seen b e p t = rw (e, next i, add-sub_cancel_left, ← p, t)
-
-module _ (ticks seen : List ℕ) where
-  pub agree-done : (c n : ℕ) → n ≡ 0 → agree ticks seen c n ≡ true
-  unfolding agree
-  agree-done c n e = rw e
-
-  pub agree_on : (c n k w : ℕ) → n ≡ suc k → w ≡ bit (ticked ticks c) → octet seen c ≡ w → agree ticks seen c n ≡ agree ticks seen (c + 1) k
-  unfolding agree
-  agree_on c n k w e p q = let s : c + 1 ≡ suc c = omega arith in rw (e, s, eq-eqb _ _ (q ∙ p))
-
-  pub agree-not : (c n k w : ℕ) → n ≡ suc k → w ≡ bit (ticked ticks c) → (octet seen c ≡ w → ⊥) → agree ticks seen c n ≡ false
-  unfolding agree
-  agree-not c n k w e p q = rw (e, ne_eqb _ _ (λ x. q (x ∙ sym p)))
 
 -- along the plan, by place
 module _ (judge : List ℕ → Answer Ask) (kind : ℕ) (plan : List ℕ) where
@@ -139,15 +125,15 @@ module _ (T : Tables) (ticks : List ℕ) (sender kind : ℕ) (plan : List ℕ) w
     step : n ≤ length plan - (at + 1) → walked ≡ (hearing (judged_of T sender) kind seen (octets plan (at + 1) n) then λ s. walk (judged_of T sender) kind (g.1.0 - 1) s (drop (at + 1 + n) plan))
     step l = rw e (sym g.1.2 ∙ walk-on (judged_of T sender) kind plan g.1.0 (g.1.0 - 1) at seen (omega (arith, g.1.1)) h (omega arith))
 
-    pub going-no : (ok : Bool) (left m : List ℕ) → n ≤ length plan - (at + 1) → m ≡ octets plan (at + 1) n → told ok left ≡ hearing (judged_of T sender) kind seen m → ok ≡ false → walked ≡ refused 0 0
+    pub going-no : (ok : Bool) (left m : List ℕ) → n ≤ length plan - (at + 1) → m ≡ octets plan (at + 1) n → told_seen ok left ≡ hearing (judged_of T sender) kind seen m → ok ≡ false → walked ≡ refused 0 0
     going-no ok left m l q r t =
-        let r₁ = subst (λ (x : List ℕ). told ok left ≡ hearing (judged_of T sender) kind seen x) q r in
-        let t₁ : told ok left ≡ refused 0 0 = rw t in
+        let r₁ = subst (λ (x : List ℕ). told_seen ok left ≡ hearing (judged_of T sender) kind seen x) q r in
+        let t₁ : told_seen ok left ≡ refused 0 0 = rw t in
         step l ∙ rw (sym r₁ ∙ t₁)
 
-    pub going_on : (ok : Bool) (left m : List ℕ) → n ≤ length plan - (at + 1) → m ≡ octets plan (at + 1) n → told ok left ≡ hearing (judged_of T sender) kind seen m → ok ≡ true → Going (at + 1 + n) left
+    pub going_on : (ok : Bool) (left m : List ℕ) → n ≤ length plan - (at + 1) → m ≡ octets plan (at + 1) n → told_seen ok left ≡ hearing (judged_of T sender) kind seen m → ok ≡ true → Going (at + 1 + n) left
     going_on ok left m l q r t =
-        let r₁ = subst (λ (x : List ℕ). told ok left ≡ hearing (judged_of T sender) kind seen x) q r in
-        let t₁ : told ok left ≡ accepted left = rw t in
+        let r₁ = subst (λ (x : List ℕ). told_seen ok left ≡ hearing (judged_of T sender) kind seen x) q r in
+        let t₁ : told_seen ok left ≡ accepted left = rw t in
         let s₁ = step l in
         (omega arith, (g.1.0 - 1, omega (arith, g.1.1), sym (rw (sym r₁ ∙ t₁) at s₁)))

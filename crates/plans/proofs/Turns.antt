@@ -9,6 +9,7 @@ use native.Mathlib.Omega.{arith}
 use borrow.Author.Tests.{eqb-true, eq-eqb, le-ltb}
 use lib.Dec.{eqb}
 use lib.ListN.{length}
+use Rattle.std.specs.Prelude.{is_some}
 use Rattle.octets.specs.Octet.{octet, AllOctets}
 use Rattle.octets.specs.Choice.{when◌then◌else◌}
 use Rattle.octets.specs.Answer.{Answer, accepted, refused}
@@ -18,7 +19,6 @@ use Rattle.asks.specs.declared.Ask.{Ask}
 use Rattle.rows.specs.Rows.{is_legal}
 use Rattle.rows.proofs.Legality.{legal-is, is-legal}
 use Rattle.rights.specs.Tables.{Tables, tables, sized}
-use Rattle.rights.specs.Rights.{is_found}
 use Rattle.hub.specs.Replies.{reply_of}
 use Rattle.rights.specs.Permits.{is_unhelpable}
 use Rattle.hub.specs.Acts.{roomed, judged_of, grant_of, carried_out, act_of}
@@ -88,7 +88,7 @@ module _ (sender : ℕ) where
     alike-judged s t l m a f e =
         let g = fair (tables s owners helpers) sender m a e in
         judged-from (tables t owners helpers) sender (sym l.size ∙ g.states-sized) g.owners-sized g.helpers-sized kind m a g.asks f g.permits.right g.permits.helps
-        (ap is_found (search-same (λ c. is_legal (octet t c)) (λ c. is_legal (octet s c)) a.circuit (a.range + 1) (λ j x y. sym (l.same j))) ∙ g.permits.legal)
+        (ap is_some (search-same (λ c. is_legal (octet t c)) (λ c. is_legal (octet s c)) a.circuit (a.range + 1) (λ j x y. sym (l.same j))) ∙ g.permits.legal)
 
     turn-stands : (states now : List ℕ) → Alike now states → (steps : List Step) → InTurn (tables now owners helpers) sender kind steps → Each (JudgedStep (judged_of (tables states owners helpers) sender) kind) steps
     turn-stands states now l [] h = tt

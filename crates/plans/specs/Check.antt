@@ -28,8 +28,8 @@ unnumbered (accepted a) = accepted a
 unnumbered (refused n at) = refused 0 0
 
 -- yes with what is seen by then, or no
-abbrev pub told : Bool → List ℕ → Answer (List ℕ)
-told ok left = when ok then accepted left else refused 0 0
+abbrev pub told_seen : Bool → List ℕ → Answer (List ℕ)
+told_seen ok left = when ok then accepted left else refused 0 0
 
 -- a message, judged
 unfoldable pub hearing : (List ℕ → Answer Ask) → ℕ → List ℕ → List ℕ → Answer (List ℕ)

@@ -1,5 +1,6 @@
 -- What is shown reads back: octets in hexadecimal digits as the same octets, a number in decimal
 -- digits as the same number.
+use Rattle.std.specs.Prelude.{Some}
 use Prim.Native.Nat.{ℕ, zero, suc, ◌+◌, ◌*◌, ◌/◌, ◌%◌, ◌^◌, ◌<◌, ◌≤◌}
 use mathlib.Core.Path.{◌≡◌, refl, ◌∙◌, ap}
 use mathlib.Core.Bool.{true}
@@ -13,7 +14,6 @@ use lib.ListN.{length, length-append}
 use Rattle.octets.specs.Octet.{AllOctets}
 use Rattle.words.specs.Digits.{value_of}
 use Rattle.words.specs.Words.{digits_from, number_of, all_digits_lem, are_octets, pairs_of, octets_of}
-use Rattle.words.specs.declared.Number.TheVariants.{Is}
 use Rattle.printing.specs.Shown.{digit_of, decimal_in, decimal_of, hex_pairs, hex_of}
 use Rattle.printing.proofs.Pours.{digit_low, digit-high, hex-some, octets-more, decimal-one, decimal-many}
 
@@ -111,7 +111,7 @@ unfolding decimal_in
 decimal-some k n = simp length-append (omega arith)
 
 -- a number that is shown reads as the same number
-pub number-reads-back : (n most : ℕ) → n ≤ most → most ≤ 4294967295 → number_of most (decimal_of n) ≡ Is n
+pub number-reads-back : (n most : ℕ) → n ≤ most → most ≤ 4294967295 → number_of most (decimal_of n) ≡ Some n
 unfolding number_of digits_from
 number-reads-back n most h l =
     let b = decimal-short 10 n in

@@ -23,10 +23,8 @@ pub fn put_text(text: &[u8], out: &mut [u8], at: usize) -> usize
         pour (sheet out.old at) text.now }
 {
     let mut next = at;
-    let mut i = 0;
-    while i < text.len() {
-        next = put_octet(text[i], out, next);
-        i += 1;
+    for &octet in text {
+        next = put_octet(octet, out, next);
     }
     next
 }
@@ -75,12 +73,9 @@ pub fn put_octets(octets: &[u8], out: &mut [u8], at: usize) -> usize
         return put_octet(b'-', out, at);
     }
     let mut next = at;
-    let mut i = 0;
-    while i < octets.len() {
-        let octet = octets[i];
+    for &octet in octets {
         next = put_octet(digit(octet / 16), out, next);
         next = put_octet(digit(octet % 16), out, next);
-        i += 1;
     }
     next
 }

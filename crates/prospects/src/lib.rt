@@ -22,6 +22,7 @@ fn mine(table: &[u8], sender: u32, circuit: usize) -> bool
 
 // Whether a plan of that kind may name the circuit: for maintenance one owned
 // or helped, for hardware one owned.
+#[tactic(auto, unfolding(plans::specs::Turns::may_block_lem))]
 fn may_block(owners: &[u8], helpers: &[u8], sender: u32, kind: u32, circuit: usize) -> bool
     ensures { result ≡
         may_block_lem kind owners.now helpers.now sender circuit }
@@ -48,6 +49,7 @@ pub fn next_will_do(owners: &[u8], helpers: &[u8], sender: u32, kind: u32, c: us
 }
 
 // Whether a plan of that kind can mark the circuit.
+#[tactic(auto, unfolding(surveys::specs::Surveys::can_plan))]
 fn plannable(owners: &[u8], helpers: &[u8], sender: u32, kind: u32, c: usize) -> bool
     ensures { result ≡
         can_plan kind (may_block_lem kind owners.now helpers.now sender) c }

@@ -1,11 +1,12 @@
 -- Any two outcomes that a public function's contract allows are equal: the
 -- buffer and the next place.
+use Rattle.std.specs.Prelude.{Option}
+use Rattle.layout.specs.declared.Shape.{Shape}
 use Prim.Native.Nat.{ℕ}
 use mathlib.Core.Path.{◌≡◌}
 use mathlib.Core.List.{List}
 use Rattle.octets.proofs.Answer.{one_answer}
 use Rattle.parts.specs.declared.Parts.{Parts}
-use Rattle.layout.specs.declared.Row.{Row}
 use Rattle.parts.specs.declared.Span.{Span}
 use Rattle.parts.specs.Spans.{part_of}
 use Rattle.isup.specs.Table.{shape_of}
@@ -19,7 +20,7 @@ pub part-determined : (message : List ℕ) (span : Span) {r s : List ℕ} → r 
 part-determined message span = one_answer
 
 -- of a row
-pub say-row-determined : (row : Row) (out : List ℕ) {left rest : List ℕ} {r q : ℕ} → sheet left r ≡ pour (sheet out 0) (shape_line row) → sheet rest q ≡ pour (sheet out 0) (shape_line row) → (left ≡ rest) × (r ≡ q)
+pub say-row-determined : (row : Option Shape) (out : List ℕ) {left rest : List ℕ} {r q : ℕ} → sheet left r ≡ pour (sheet out 0) (shape_line row) → sheet rest q ≡ pour (sheet out 0) (shape_line row) → (left ≡ rest) × (r ≡ q)
 say-row-determined row out = sheet-determined
 
 -- of the parts of a message

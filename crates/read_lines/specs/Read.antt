@@ -1,9 +1,8 @@
 -- The lines of a type's shape, and of a message.
-use Rattle.std.specs.Prelude.{ℕ, Bool, true, false, List, [], ◌∷◌, ◌++◌}
+use Rattle.std.specs.Prelude.{ℕ, Bool, true, false, List, [], ◌∷◌, ◌++◌, Option, Some, None}
+use Rattle.layout.specs.declared.Shape.{Shape}
 use Rattle.octets.specs.Answer.{Answer, accepted, refused}
 use Rattle.parts.specs.declared.Parts.{Parts}
-use Rattle.layout.specs.declared.Row.{Row}
-use Rattle.layout.specs.declared.Row.TheVariants.{Has, Unknown}
 use Rattle.parts.specs.Spans.{part_of}
 use Rattle.isup.specs.declared.Message.{Message}
 use Rattle.words.specs.Said.{said}
@@ -15,10 +14,10 @@ optional_word true = said " optional yes"
 optional_word false = said " optional no"
 
 -- fixed 5 variable 1 optional yes; 3 for a type that is not in the table
-unfoldable pub shape_line : Row → List ℕ
-shape_line (Has s) =
+unfoldable pub shape_line : Option Shape → List ℕ
+shape_line (Some s) =
     counted "fixed " s.fixed ++ counted " variable " s.vars ++ optional_word s.opt
-shape_line Unknown = refusal 3
+shape_line None = refusal 3
 
 -- fixed - first 03 second - optional -; a part that is not there, or is empty, is -, and the
 -- optional run is without its closing 0

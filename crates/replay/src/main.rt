@@ -6,54 +6,42 @@
 #![tactic(auto)]
 
 use book::Place;
+use std::io;
 use std::io::{Read, Stdin};
 use std::process::ExitCode;
-
-// Where the book is when no more is read, and whether the input has ended there: a read that fails
-// ends it too.
-#[derive(Clone, Copy)]
-struct Ending {
-    place: Place,
-    whole: bool,
-}
 
 // Says a fault on standard error, where that can be written.
 fn tell(rt: &HostRuntime, fault: &str) {
     let _ = rt.eprintln(fault);
 }
 
-// Reads to the end and feeds what comes; answers where the book is then.
+// Reads to the end and feeds what comes; `place` is where the book is then, where a read fails too.
 fn read_all(
     mut input: Stdin,
-    place: Place,
+    place: &mut Place,
     chunk: &mut [u8],
     buffer: &mut [u8],
     owners: &mut [u8],
     states: &mut [u8],
     accepted: &mut [u16],
     refused: &mut [u16],
-) -> Ending {
-    let mut at = place;
+) -> io::Result<()> {
     for _ in 0..u64::MAX {
-        match input.read(chunk) {
-            Err(_) => {
-                return Ending {
-                    place: at,
-                    whole: false,
-                };
-            }
-            Ok(n) => {
-                if n == 0 {
-                    break;
-                }
-                at = feeding::feed(at, &chunk[..n], buffer, owners, states, accepted, refused);
-            }
+        let n = input.read(chunk)?;
+        if n == 0 {
+            break;
         }
+        *place = feeding::feed(
+            *place,
+            &chunk[..n],
+            buffer,
+            owners,
+            states,
+            accepted,
+            refused,
+        );
     }
-    Ending {
-        place: at,
-        whole: true,
-    }
+    Ok(())
 }
 
 // Writes the first n octets of what was put together. Where they cannot be written, that is told,
@@ -80,10 +68,10 @@ fn run(
     let mut buffer = [0u8; 268];
     let mut accepted = [0u16; 256];
     let mut refused = [0u16; 256];
-    let start = opening::begin(owners, states, &mut accepted, &mut refused);
-    let end = read_all(
+    let mut place = opening::begin(owners, states, &mut accepted, &mut refused);
+    let read = read_all(
         rt.stdin(),
-        start,
+        &mut place,
         chunk,
         &mut buffer,
         owners,
@@ -91,11 +79,11 @@ fn run(
         &mut accepted,
         &mut refused,
     );
-    if !end.whole {
+    if read.is_err() {
         tell(rt, "replay: standard input cannot be read");
     }
-    let n = tallies::report(end.place, owners, states, &accepted, &refused, out);
-    write_out(rt, out, n) && end.whole
+    let n = tallies::report(place, owners, states, &accepted, &refused, out);
+    write_out(rt, out, n) && read.is_ok()
 }
 
 fn main(rt: HostRuntime) -> ExitCode {

@@ -9,11 +9,11 @@ use native.Mathlib.Nat.{div-lt_iff_lt-mul}
 use borrow.Author.Tests.{le-ltb}
 use lib.Dec.{eqb}
 use lib.ListN.{length}
+use Rattle.std.specs.Prelude.{Some}
 use Rattle.octets.specs.Answer.{accepted}
 use Rattle.octets.specs.Octet.{octet}
 use Rattle.octets.specs.Choice.{when◌then◌else◌}
 use Rattle.octets.proofs.Tabulate.{length-tabulate}
-use Rattle.layout.specs.declared.Row.TheVariants.{Has}
 use Rattle.isup.specs.Table.{shape_of}
 use Rattle.runs.specs.Run.{step_at_lem, stops, stop_from, is_run_lem}
 use Rattle.measuring.specs.Measure.{unfit_of}
@@ -36,17 +36,17 @@ reads-written circuit type fixed first second octets e =
 
 module _ (circuit : ℕ) (low : circuit ≤ 4095) where
   -- a circuit and a type alone
-  plain-formed : (t : ℕ) → t ≤ 255 → shape_of t ≡ Has (record { fixed = 0; vars = 0; opt = false }) → ReadsAs ((circuit % 256) ∷ (circuit / 256) ∷ t ∷ []) circuit (saying t [] [] [])
+  plain-formed : (t : ℕ) → t ≤ 255 → shape_of t ≡ Some (record { fixed = 0; vars = 0; opt = false }) → ReadsAs ((circuit % 256) ∷ (circuit / 256) ∷ t ∷ []) circuit (saying t [] [] [])
   unfolding write_in written_of unfit_of is_run_lem stop_from stops step_at_lem marks exceeds form_of pointers ahead variables run_pointer closed_run_lem
   plain-formed t k h = reads-written circuit t [] [] [] _ (rw (le-ltb _ _ low, le-ltb _ _ k, h) refl)
 
   -- an optional part that is not there
-  optional-formed : (t : ℕ) → t ≤ 255 → shape_of t ≡ Has (record { fixed = 0; vars = 0; opt = true }) → ReadsAs ((circuit % 256) ∷ (circuit / 256) ∷ t ∷ 0 ∷ []) circuit (saying t [] [] [])
+  optional-formed : (t : ℕ) → t ≤ 255 → shape_of t ≡ Some (record { fixed = 0; vars = 0; opt = true }) → ReadsAs ((circuit % 256) ∷ (circuit / 256) ∷ t ∷ 0 ∷ []) circuit (saying t [] [] [])
   unfolding write_in written_of unfit_of is_run_lem stop_from stops step_at_lem marks exceeds form_of pointers ahead variables run_pointer closed_run_lem
   optional-formed t k h = reads-written circuit t [] [] [] _ (rw (le-ltb _ _ low, le-ltb _ _ k, h) refl)
 
   -- range and status as the one variable part
-  status-formed : (t r : ℕ) (status : List ℕ) → t ≤ 255 → shape_of t ≡ Has (record { fixed = 0; vars = 1; opt = false }) → length status ≡ width r → width r ≤ 32
+  status-formed : (t r : ℕ) (status : List ℕ) → t ≤ 255 → shape_of t ≡ Some (record { fixed = 0; vars = 1; opt = false }) → length status ≡ width r → width r ≤ 32
       → ReadsAs ((circuit % 256) ∷ (circuit / 256) ∷ t ∷ 1 ∷ (1 + width r) ∷ r ∷ status) circuit (saying t [] (r ∷ status) [])
   unfolding write_in written_of unfit_of is_run_lem stop_from stops step_at_lem marks exceeds form_of pointers ahead variables run_pointer closed_run_lem
   status-formed t r status k h e few =
@@ -58,7 +58,7 @@ module _ (circuit : ℕ) (low : circuit ≤ 4095) where
       (reads-written circuit t [] (r ∷ status) [] _ (rw (le-ltb _ _ low, le-ltb _ _ k, h) (simp (le-ltb _ _ a) (rw q (simp (le-ltb _ _ b))))))
 
   -- the same after an indicator
-  group-formed : (t i r : ℕ) (status : List ℕ) → t ≤ 255 → shape_of t ≡ Has (record { fixed = 1; vars = 1; opt = false }) → length status ≡ width r → width r ≤ 32
+  group-formed : (t i r : ℕ) (status : List ℕ) → t ≤ 255 → shape_of t ≡ Some (record { fixed = 1; vars = 1; opt = false }) → length status ≡ width r → width r ≤ 32
       → ReadsAs ((circuit % 256) ∷ (circuit / 256) ∷ t ∷ i ∷ 1 ∷ (1 + width r) ∷ r ∷ status) circuit (saying t (i ∷ []) (r ∷ status) [])
   unfolding write_in written_of unfit_of is_run_lem stop_from stops step_at_lem marks exceeds form_of pointers ahead variables run_pointer closed_run_lem
   group-formed t i r status k h e few =
@@ -70,7 +70,7 @@ module _ (circuit : ℕ) (low : circuit ≤ 4095) where
       (reads-written circuit t (i ∷ []) (r ∷ status) [] _ (rw (le-ltb _ _ low, le-ltb _ _ k, h) (simp (le-ltb _ _ a) (rw q (simp (le-ltb _ _ b))))))
 
   -- range and circuit states as the two variable parts
-  states-formed : (t r c : ℕ) (states : List ℕ) → t ≤ 255 → shape_of t ≡ Has (record { fixed = 0; vars = 2; opt = false }) → c ≡ length states → length states ≤ 255
+  states-formed : (t r c : ℕ) (states : List ℕ) → t ≤ 255 → shape_of t ≡ Some (record { fixed = 0; vars = 2; opt = false }) → c ≡ length states → length states ≤ 255
       → ReadsAs ((circuit % 256) ∷ (circuit / 256) ∷ t ∷ 2 ∷ 3 ∷ 1 ∷ r ∷ c ∷ states) circuit (saying t [] (r ∷ []) states)
   unfolding write_in written_of unfit_of is_run_lem stop_from stops step_at_lem marks exceeds form_of pointers ahead variables run_pointer closed_run_lem
   states-formed t r c states k h e few =

@@ -1,15 +1,15 @@
 -- The stores of an answer, over plain variables.
-use Prim.Native.Nat.{ℕ, suc, ◌+◌, ◌≤◌, ◌<◌}
+use Prim.Native.Nat.{ℕ, suc, ◌+◌, ◌≤◌}
 use mathlib.Core.Path.{◌≡◌, refl, ◌∙◌}
 use mathlib.Core.Logic.{⊎_elim}
 use mathlib.Core.List.{List, ◌∷◌}
 use native.Mathlib.Omega.{arith}
-use borrow.Author.Tests.{lt-ltb, le-ltb}
+use borrow.Author.Tests.{le-ltb}
 use lib.Dec.{eqb}
 use lib.ListN.{length, set}
 use lib.Seq.{sets}
 use Rattle.octets.specs.Octet.{octet}
-use Rattle.octets.specs.Answer.{accepted, refused}
+use Rattle.octets.specs.Answer.{accepted}
 use Rattle.octets.specs.Filled.{leaving, filled}
 use Rattle.octets.proofs.Filled.{sets-filled}
 use Rattle.octets.proofs.Choice.{decided}
@@ -30,11 +30,7 @@ three-stores b at x y z rest =
     rw (p, q, r)
 
 -- ---- the answer
--- there is no room for it
-pub sent-short : (octets buffer : List ℕ) (n : ℕ) → n ≡ length octets → length buffer < n → leaving (refused 13 0) buffer ≡ sent octets buffer
-sent-short octets buffer n e h = rw (lt-ltb (length buffer) (length octets) (omega arith)) refl
-
--- there is, and its octets were stored from the start on
+-- there is room for it, and its octets were stored from the start on
 pub sent-stored : (octets buffer left : List ℕ) (n : ℕ) → n ≡ length octets → n ≤ length buffer → left ≡ sets buffer 0 octets → leaving (accepted n) left ≡ sent octets buffer
 sent-stored octets buffer left n e h q =
     let l : length octets ≤ length buffer = omega arith in

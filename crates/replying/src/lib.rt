@@ -3,15 +3,15 @@
 #![tactic(auto)]
 
 ghost use Rattle.std.specs.Prelude.{◌≡◌, [], ◌∷◌, ◌+◌, ◌≤◌, length};
+ghost use Rattle.octets.specs.Told.{told};
 ghost use Rattle.std.proofs.lemmas.List.Edits.{sets};
 ghost use Rattle.octets.specs.Filled.{leaving};
-ghost use Rattle.octets.specs.Told.{written_told};
 ghost use Rattle.isup.specs.Types.{RLC, BLO, GRA, CQR};
 ghost use Rattle.asks.specs.Asks.{width};
 ghost use Rattle.replies.specs.Replies.{headed, range_and_status, status_given, status_locked, range_and_states, completion, notice_of, answer_to, sent};
 
 use isup::{BLA, BLO, CGBA, CGUA, CQR, GRA, RLC, UBA, UBL};
-use octets::Written;
+use octets::Refusal;
 use rows::Act;
 
 // Writes the circuit, low eight bits first, and the type from octet `at` on.
@@ -35,10 +35,8 @@ fn write_status(range: u8, status: &[u8], answer: &mut [u8], at: usize)
     answer[at] = 1;
     answer[at + 1] = 1 + width;
     answer[at + 2] = range;
-    let mut j = 0;
-    while j < width as usize {
+    for j in 0..width as usize {
         answer[at + 3 + j] = marks::status_octet(range, status, j);
-        j += 1;
     }
 }
 
@@ -53,10 +51,8 @@ fn write_locks(range: u8, group: &[u8], answer: &mut [u8])
     answer[3] = 1;
     answer[4] = 1 + width;
     answer[5] = range;
-    let mut j = 0;
-    while j < width {
+    for j in 0..width {
         answer[6 + j as usize] = marks::locked_octet(range, group, j);
-        j += 1;
     }
 }
 
@@ -73,55 +69,53 @@ fn write_states(range: u8, group: &[u8], answer: &mut [u8])
     answer[5] = 1;
     answer[6] = range;
     answer[7] = (count % 256) as u8;
-    let mut i = 0;
-    while i < count {
+    for i in 0..count {
         answer[8 + i] = changes::circuit_state(changes::octet_at(group, i));
-        i += 1;
     }
 }
 
 // BLA, UBA: the circuit and the type alone.
-fn answer_plain(circuit: u16, kind: u8, answer: &mut [u8]) -> Written
-    ensures { leaving (written_told result) answer.new ≡
+fn answer_plain(circuit: u16, kind: u8, answer: &mut [u8]) -> Result<usize, Refusal>
+    ensures { leaving (told result) answer.new ≡
         sent (headed circuit kind []) answer.old }
 {
     if answer.len() < 3 {
-        return Written::Refused(13, 0);
+        return Err(Refusal::NoRoom);
     }
     write_head(circuit, kind, answer, 0);
-    Written::Octets(3)
+    Ok(3)
 }
 
 // RLC: the pointer 0, no optional part.
-fn answer_complete(circuit: u16, answer: &mut [u8]) -> Written
-    ensures { leaving (written_told result) answer.new ≡
+fn answer_complete(circuit: u16, answer: &mut [u8]) -> Result<usize, Refusal>
+    ensures { leaving (told result) answer.new ≡
         sent (headed circuit RLC (0 ∷ [])) answer.old }
 {
     if answer.len() < 4 {
-        return Written::Refused(13, 0);
+        return Err(Refusal::NoRoom);
     }
     write_head(circuit, RLC, answer, 0);
     answer[3] = 0;
-    Written::Octets(4)
+    Ok(4)
 }
 
 // BLO and then RLC, one after the other.
-fn answer_locked(circuit: u16, answer: &mut [u8]) -> Written
-    ensures { leaving (written_told result) answer.new ≡
+fn answer_locked(circuit: u16, answer: &mut [u8]) -> Result<usize, Refusal>
+    ensures { leaving (told result) answer.new ≡
         sent (headed circuit BLO (headed circuit RLC (0 ∷ []))) answer.old }
 {
     if answer.len() < 7 {
-        return Written::Refused(13, 0);
+        return Err(Refusal::NoRoom);
     }
     write_head(circuit, BLO, answer, 0);
     write_head(circuit, RLC, answer, 3);
     answer[6] = 0;
-    Written::Octets(7)
+    Ok(7)
 }
 
 // What answers RSC: RLC, and BLO before it where the circuit's row says that it is locally blocked.
-fn answer_clear(circuit: u16, row: u8, answer: &mut [u8]) -> Written
-    ensures { leaving (written_told result) answer.new ≡
+fn answer_clear(circuit: u16, row: u8, answer: &mut [u8]) -> Result<usize, Refusal>
+    ensures { leaving (told result) answer.new ≡
         sent (completion circuit row) answer.old }
 {
     if row / 8 % 2 == 1 {
@@ -131,18 +125,18 @@ fn answer_clear(circuit: u16, row: u8, answer: &mut [u8]) -> Written
 }
 
 // GRA: range and status, from the rows of the group.
-fn answer_reset(circuit: u16, range: u8, group: &[u8], answer: &mut [u8]) -> Written
-    ensures { leaving (written_told result) answer.new ≡
+fn answer_reset(circuit: u16, range: u8, group: &[u8], answer: &mut [u8]) -> Result<usize, Refusal>
+    ensures { leaving (told result) answer.new ≡
         sent (headed circuit GRA (range_and_status range (status_locked range group.now)))
         answer.old }
 {
     let size = 7 + (range / 8) as usize;
     if answer.len() < size {
-        return Written::Refused(13, 0);
+        return Err(Refusal::NoRoom);
     }
     write_head(circuit, GRA, answer, 0);
     write_locks(range, group, answer);
-    Written::Octets(size)
+    Ok(size)
 }
 
 // CGBA, CGUA: the indicator, then range and status.
@@ -153,33 +147,34 @@ fn answer_group(
     range: u8,
     status: &[u8],
     answer: &mut [u8],
-) -> Written
-    ensures { leaving (written_told result) answer.new ≡
-        sent (headed circuit kind (block ∷ range_and_status range (status_given range status.now))) answer.old }
+) -> Result<usize, Refusal>
+    ensures { leaving (told result) answer.new ≡
+        sent (headed circuit kind
+        (block ∷ range_and_status range (status_given range status.now))) answer.old }
 {
     let size = 8 + (range / 8) as usize;
     if answer.len() < size {
-        return Written::Refused(13, 0);
+        return Err(Refusal::NoRoom);
     }
     write_head(circuit, kind, answer, 0);
     answer[3] = block;
     write_status(range, status, answer, 4);
-    Written::Octets(size)
+    Ok(size)
 }
 
 // CQR: range and circuit states.
-fn answer_query(circuit: u16, range: u8, group: &[u8], answer: &mut [u8]) -> Written
-    ensures { leaving (written_told result) answer.new ≡
+fn answer_query(circuit: u16, range: u8, group: &[u8], answer: &mut [u8]) -> Result<usize, Refusal>
+    ensures { leaving (told result) answer.new ≡
         sent (headed circuit CQR (range_and_states range group.now))
         answer.old }
 {
     let size = 9 + range as usize;
     if answer.len() < size {
-        return Written::Refused(13, 0);
+        return Err(Refusal::NoRoom);
     }
     write_head(circuit, CQR, answer, 0);
     write_states(range, group, answer);
-    Written::Octets(size)
+    Ok(size)
 }
 
 // Writes what answers an act on circuits `circuit` to `circuit + range`: its octets
@@ -195,13 +190,13 @@ pub fn reply(
     group: &[u8],
     status: &[u8],
     answer: &mut [u8],
-) -> Written
-    ensures { leaving (written_told result) answer.new ≡
+) -> Result<usize, Refusal>
+    ensures { leaving (told result) answer.new ≡
         sent (answer_to act circuit range block group.now status.now)
         answer.old }
 {
     match act {
-        Act::Seize => Written::Octets(0),
+        Act::Seize => Ok(0),
         Act::Release => answer_complete(circuit, answer),
         Act::Reset => answer_clear(circuit, changes::octet_at(group, 0), answer),
         Act::Block => answer_plain(circuit, BLA, answer),
@@ -215,8 +210,8 @@ pub fn reply(
 
 // Writes what the desk has to send where it sets its own block, BLO, or clears it, UBL: three
 // octets at the front of `answer`, the rest of it is kept; or 13, and all of `answer` is kept.
-pub fn notice(circuit: u16, set: bool, answer: &mut [u8]) -> Written
-    ensures { leaving (written_told result) answer.new ≡
+pub fn notice(circuit: u16, set: bool, answer: &mut [u8]) -> Result<usize, Refusal>
+    ensures { leaving (told result) answer.new ≡
         sent (notice_of circuit set) answer.old }
 {
     if set {

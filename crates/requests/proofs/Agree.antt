@@ -1,4 +1,5 @@
 -- What a line asks by its places is what it asks by its words, for every row of the table.
+use Rattle.std.specs.Prelude.{Option, Some, None}
 use Prim.Native.Nat.{ℕ, zero, suc, ◌+◌, ◌-◌, ◌*◌, ◌/◌, ◌≤◌, ◌<◌}
 use mathlib.Core.Path.{◌≡◌, refl, sym, ◌∙◌, ap}
 use mathlib.Core.Bool.{Bool, true, false, false≢true}
@@ -13,8 +14,6 @@ use lib.Seq.{drop-drop, length-take-le, sets, sets-eq, take-take, drop_at, drop-
 use Rattle.octets.specs.Octet.{octets}
 use Rattle.octets.specs.Choice.{when◌then◌else◌}
 use Rattle.octets.proofs.Choice.{chosen, decided}
-use Rattle.words.specs.declared.Number.{Number}
-use Rattle.words.specs.declared.Number.TheVariants.{Is, Not}
 use Rattle.words.specs.Words.{word_length, word_end_lem, same, number_of, octet_of_lem, are_octets, octets_of}
 use Rattle.words.specs.Into.{Entry, entry}
 use Rattle.words.proofs.Bounds.{word-within}
@@ -99,12 +98,12 @@ sets-there xs buffer at h =
 -- a word along the line: it is no field of the kind, or it says there what it means
 abbrev Enters : Kind → ℕ → List ℕ → ℕ → ℕ → Entry → Type 0
 Enters k before word next most e =
-    ((meaning k before word ≡ lost) × (e.count ≡ Not))
-    ⊎ ((v : ℕ) × (e.count ≡ Is v) × (meaning k before word ≡ found (said_at e.left (placed k v next))) × ((placed k v next).from ≡ next) × ((placed k v next).count ≤ most))
+    ((meaning k before word ≡ lost) × (e.count ≡ None))
+    ⊎ ((v : ℕ) × (e.count ≡ Some v) × (meaning k before word ≡ found (said_at e.left (placed k v next))) × ((placed k v next).from ≡ next) × ((placed k v next).count ≤ most))
 
-number-enters : (k : Kind) (before : ℕ) (word : List ℕ) (next most : ℕ) (left : List ℕ) (n : Number) → meaning k before word ≡ number_says n → ((v : ℕ) → placed k v next ≡ field v next 0) → Enters k before word next most (entry n left)
-number-enters k before word next most left (Is v) e p = inr (v, refl, e ∙ ap (λ (f : Field). found (said_at left f)) (sym (p v)), ap (λ (f : Field). f.from) (p v), omega (arith, ap (λ (f : Field). f.count) (p v)))
-number-enters k before word next most left Not e p = inl (e, refl)
+number-enters : (k : Kind) (before : ℕ) (word : List ℕ) (next most : ℕ) (left : List ℕ) (n : Option ℕ) → meaning k before word ≡ number_says n → ((v : ℕ) → placed k v next ≡ field v next 0) → Enters k before word next most (entry n left)
+number-enters k before word next most left (Some v) e p = inr (v, refl, e ∙ ap (λ (f : Field). found (said_at left f)) (sym (p v)), ap (λ (f : Field). f.from) (p v), omega (arith, ap (λ (f : Field). f.count) (p v)))
+number-enters k before word next most left None e p = inl (e, refl)
 
 -- a field puts half as many octets as its word has; a word that is kept as
 -- it is typed, up to nine more
@@ -180,15 +179,15 @@ Rest line ks = (before at : ℕ) (scratch : List ℕ) (next : ℕ) → at ≤ le
 
 -- what was put after a field, and says nothing of it
 module _ (line : List ℕ) (k : Kind) (ks : List Kind) (before at : ℕ) (scratch : List ℕ) (next : ℕ) (l : at < length line) where
-  says-lost : meaning k before (word_at line at) ≡ lost → (entered k before (word_at line at) scratch next).count ≡ Not → Says (k ∷ ks) before line at next scratch (fields_of (k ∷ ks) before line at scratch next)
+  says-lost : meaning k before (word_at line at) ≡ lost → (entered k before (word_at line at) scratch next).count ≡ None → Says (k ∷ ks) before line at next scratch (fields_of (k ∷ ks) before line at scratch next)
   unfolding words_say
   says-lost m n =
       let e = entered k before (word_at line at) scratch next in
-      let b = field-broken line at scratch next k ks before l (word_end_lem line (at + 1)) refl e.left (ap (λ (x : Number). entry x e.left) (sym n)) in
+      let b = field-broken line at scratch next k ks before l (word_end_lem line (at + 1)) refl e.left (ap (λ (x : Option ℕ). entry x e.left) (sym n)) in
       rw (b, rest-first line at l, m) (refl, (entered-keeps k before (word_at line at) scratch next).0, (entered-keeps k before (word_at line at) scratch next).1)
 
   -- a field, and then the rest
-  says-found : (r : 2 * next + (length line - at) + 18 * suc (length ks) ≤ 2 * length scratch) → Rest line ks → (v : ℕ) → (entered k before (word_at line at) scratch next).count ≡ Is v
+  says-found : (r : 2 * next + (length line - at) + 18 * suc (length ks) ≤ 2 * length scratch) → Rest line ks → (v : ℕ) → (entered k before (word_at line at) scratch next).count ≡ Some v
       → meaning k before (word_at line at) ≡ found (said_at (entered k before (word_at line at) scratch next).left (placed k v next)) → (placed k v next).from ≡ next → (placed k v next).count ≤ length (word_at line at) / 2 + 9
       → Says (k ∷ ks) before line at next scratch (fields_of (k ∷ ks) before line at scratch next)
   unfolding words_say
@@ -199,7 +198,7 @@ module _ (line : List ℕ) (k : Kind) (ks : List Kind) (before at : ℕ) (scratc
       let w = word-within line (at + 1) (omega arith) in
       let d = word-length line at l in
       let a : Along = fields_of ks f.value line (word_end_lem line (at + 1)) e.left (next + f.count) in
-      let b : fields_of (k ∷ ks) before line at scratch next ≡ heading f a = field-there line at scratch next k ks before l (word_end_lem line (at + 1)) refl e.left v (ap (λ (x : Number). entry x e.left) (sym n)) in
+      let b : fields_of (k ∷ ks) before line at scratch next ≡ heading f a = field-there line at scratch next k ks before l (word_end_lem line (at + 1)) refl e.left v (ap (λ (x : Option ℕ). entry x e.left) (sym n)) in
       let g = rest f.value (word_end_lem line (at + 1)) e.left (next + f.count) w (omega (arith, kept.1)) in
       let s : said_at a.left f ≡ said_at e.left f = said_same a.left e.left f (next + f.count) (omega arith) g.1 in
       let t : told a.left (leading f a.fit) ≡ leading (said_at e.left f) (words_say ks f.value (rest_at line (word_end_lem line (at + 1)))) = told-leading a.left f a.fit ∙ ap (λ (x : FieldSays). leading x (told a.left a.fit)) s ∙ ap (leading (said_at e.left f)) g.0 in

@@ -1,4 +1,5 @@
 -- What every request keeps to, by the kinds of its row.
+use Rattle.std.specs.Prelude.{Option, Some, None}
 use Prim.Native.Nat.{ℕ, zero, suc, ◌+◌, ◌-◌, ◌≤◌}
 use mathlib.Core.Path.{◌≡◌, refl, sym, ◌∙◌, ap}
 use mathlib.Core.Bool.{Bool, true, false, false≢true}
@@ -10,8 +11,6 @@ use lib.Dec.{ltb, eqb}
 use lib.ListN.{length, get_or, drop, replicate}
 use Rattle.octets.specs.Choice.{when◌then◌else◌}
 use Rattle.octets.proofs.Choice.{chosen}
-use Rattle.words.specs.declared.Number.{Number}
-use Rattle.words.specs.declared.Number.TheVariants.{Is, Not}
 use Rattle.words.specs.Words.{same, number_of, octet_of_lem, are_octets}
 use Rattle.words.proofs.Bounds.{number-most, octet-most}
 use Rattle.words.proofs.Into.{octets-most}
@@ -21,27 +20,27 @@ use Rattle.forms.specs.Table.{Form, forms, kinds_of, kinds_at}
 use Rattle.forms.specs.Rows.{CHECK}
 use Rattle.requests.specs.Words.{words_of, words_say, Asked, asks, nothing, asking, asked_by_lem, asked_by_table, asked_of, octets_at, Keeps, Kept, SoundRequest}
 
-is-not : {v : ℕ} → Not ≡ Is v → ⊥
-is-not e = let z : ◌≡◌ {A = ℕ} 0 1 = cc in omega arith
+is-not : {v : ℕ} → None ≡ Some v → ⊥
+is-not e = cc
 
-is_same : {v w : ℕ} → Is v ≡ Is w → v ≡ w
+is_same : {v w : ℕ} → Some v ≡ Some w → v ≡ w
 is_same e = cc
 
 found-not : {A : Type 0} {a : A} → lost ≡ found a → ⊥
-found-not e = let z : ◌≡◌ {A = ℕ} 0 1 = cc in omega arith
+found-not e = cc
 
 found-same : {A : Type 0} {a b : A} → found a ≡ found b → a ≡ b
 found-same e = cc
 
 -- a number that is not below another
-not-below : (least v : ℕ) (n : Number) → not_below_lem least n ≡ Is v → (least ≤ v) × (n ≡ Is v)
-not-below least v (Is w) e = ⊎_elim (λ x. absurd (is-not x.1)) (λ x. (omega (arith, ltb-false w least x.0, is_same x.1), x.1)) (chosen (ltb w least) e)
-not-below least v Not e = absurd (is-not e)
+not-below : (least v : ℕ) (n : Option ℕ) → not_below_lem least n ≡ Some v → (least ≤ v) × (n ≡ Some v)
+not-below least v (Some w) e = ⊎_elim (λ x. absurd (is-not x.1)) (λ x. (omega (arith, ltb-false w least x.0, is_same x.1), x.1)) (chosen (ltb w least) e)
+not-below least v None e = absurd (is-not e)
 
 -- a field that is a number
-as_number : (n : Number) (g : FieldSays) → number_says n ≡ found g → (n ≡ Is g.value) × (g.octets ≡ [])
-as_number (Is v) g e = let s = found-same e in (ap (λ (x : FieldSays). Is x.value) s, sym (ap (λ (x : FieldSays). x.octets) s))
-as_number Not g e = absurd (found-not e)
+as_number : (n : Option ℕ) (g : FieldSays) → number_says n ≡ found g → (n ≡ Some g.value) × (g.octets ≡ [])
+as_number (Some v) g e = let s = found-same e in (ap (λ (x : FieldSays). Some x.value) s, sym (ap (λ (x : FieldSays). x.octets) s))
+as_number None g e = absurd (found-not e)
 
 -- one field, by its kind
 keeps : (k : Kind) (before : ℕ) (word : List ℕ) (g : FieldSays) → meaning k before word ≡ found g → Keeps k before g
@@ -75,8 +74,8 @@ apart k ks before (w ∷ ws) l e = (w, ws, read (meaning k before w) e)
 
 -- what stands at a place
 head_at : (gs : List FieldSays) (i : ℕ) (g : FieldSays) (r : List FieldSays) → drop i gs ≡ g ∷ r → (get_or gs i unsaid ≡ g) × (drop (suc i) gs ≡ r)
-head_at [] zero g r e = absurd (let z : ◌≡◌ {A = ℕ} 0 1 = cc in omega arith)
-head_at [] (suc i) g r e = absurd (let z : ◌≡◌ {A = ℕ} 0 1 = cc in omega arith)
+head_at [] zero g r e = absurd cc
+head_at [] (suc i) g r e = absurd cc
 head_at (x ∷ xs) zero g r e = (cc, cc)
 head_at (x ∷ xs) (suc i) g r e = head_at xs i g r e
 

@@ -1,4 +1,5 @@
 -- A step along the fields of a line.
+use Rattle.std.specs.Prelude.{Some, None}
 use Prim.Native.Nat.{ℕ, zero, suc, ◌+◌, ◌-◌, ◌/◌, ◌%◌, ◌≤◌, ◌<◌}
 use mathlib.Core.Path.{◌≡◌, refl, sym, ◌∙◌, ap}
 use mathlib.Core.List.{List, [], ◌∷◌, ◌++◌, append_assoc}
@@ -6,7 +7,6 @@ use native.Mathlib.Omega.{arith}
 use borrow.Author.Tests.{le-leb, lt-leb, eq-eqb, ne_eqb}
 use lib.ListN.{length, set, replicate, length-append}
 use lib.Seq.{set_at}
-use Rattle.words.specs.declared.Number.TheVariants.{Is, Not}
 use Rattle.words.specs.Words.{word_end_lem}
 use Rattle.words.specs.Into.{entry}
 use Rattle.fields.specs.declared.Field.{Field}
@@ -65,12 +65,12 @@ module _ (line : List ℕ) (at : ℕ) (scratch : List ℕ) (next : ℕ) where
 
     module _ (h : at < length line) (to : ℕ) (e : to ≡ word_end_lem line (at + 1)) (left : List ℕ) where
       -- it breaks its rule
-      pub field-broken : entry Not left ≡ entered k before (between line (at + 1) to) scratch next → fields_of (k ∷ ks) before line at scratch next ≡ along lost left
+      pub field-broken : entry None left ≡ entered k before (between line (at + 1) to) scratch next → fields_of (k ∷ ks) before line at scratch next ≡ along lost left
       unfolding fields_of
       field-broken n = let w = rw e at n in rw (lt-leb _ _ h, ← w) refl
 
       -- it is there
-      pub field-there : (v : ℕ) → entry (Is v) left ≡ entered k before (between line (at + 1) to) scratch next
+      pub field-there : (v : ℕ) → entry (Some v) left ≡ entered k before (between line (at + 1) to) scratch next
           → fields_of (k ∷ ks) before line at scratch next ≡ heading (placed k v next) (fields_of ks (placed k v next).value line to left (next + (placed k v next).count))
       unfolding fields_of
       field-there v n = let w = rw e at n in rw (lt-leb _ _ h, ← w, e) refl
@@ -118,11 +118,11 @@ module _ (line : List ℕ) (letters which i before at : ℕ) (scratch : List ℕ
 
     module _ (there : at < length line) (to : ℕ) (e : to ≡ word_end_lem line (at + 1)) (left : List ℕ) where
       -- it breaks its rule
-      pub breaking : entry Not left ≡ entered (kind_of (letters % 256)) before (between line (at + 1) to) scratch next → taken bad left ≡ g
+      pub breaking : entry None left ≡ entered (kind_of (letters % 256)) before (between line (at + 1) to) scratch next → taken bad left ≡ g
       breaking n = broken left (ap (λ ks. fields_of ks before line at scratch next) one_more ∙ field-broken line at scratch next _ _ before there to e left n)
 
       -- it is there
-      pub reading : (v : ℕ) → entry (Is v) left ≡ entered (kind_of (letters % 256)) before (between line (at + 1) to) scratch next → (f : Field) → f ≡ placed (kind_of (letters % 256)) v next
+      pub reading : (v : ℕ) → entry (Some v) left ≡ entered (kind_of (letters % 256)) before (between line (at + 1) to) scratch next → (f : Field) → f ≡ placed (kind_of (letters % 256)) v next
           → answer which (done ++ (f ∷ [])) (fields_of (kinds_in (8 - (i + 1)) (letters / 256)) f.value line to left (next + f.count)) ≡ g
       reading v n f p =
           ap (λ (x : Field). answer which (done ++ (x ∷ [])) (fields_of (kinds_in (8 - (i + 1)) (letters / 256)) x.value line to left (next + x.count))) p

@@ -1,11 +1,9 @@
 -- What a line asks, along the line. Words stand apart by one space: a field is the word after the
 -- space at octet `at`, at which the word before ends. The octets that its fields stand for are put
 -- into a lent scratch, one field after the other.
-use Rattle.std.specs.Prelude.{ℕ, suc, ◌+◌, ◌-◌, List, [], ◌∷◌, ◌++◌, map, ltb, leb, eqb, length, take, replicate}
+use Rattle.std.specs.Prelude.{ℕ, suc, ◌+◌, ◌-◌, List, [], ◌∷◌, ◌++◌, map, ltb, leb, eqb, length, take, replicate, Option, Some, None}
 use Rattle.octets.specs.Octet.{octets}
 use Rattle.octets.specs.Choice.{when◌then◌else◌}
-use Rattle.words.specs.declared.Number.{Number}
-use Rattle.words.specs.declared.Number.TheVariants.{Is, Not}
 use Rattle.words.specs.Words.{word_end_lem, same}
 use Rattle.fields.specs.declared.Field.{Field}
 use Rattle.fields.specs.Placed.{no_field, entered, placed}
@@ -37,9 +35,9 @@ abbrev pub heading : Field → Along → Along
 heading f a = along (leading f a.fit) a.left
 
 -- go on with a number, and the scratch as it was left
-abbrev pub going : Number → List ℕ → (ℕ → List ℕ → Along) → Along
-going (Is v) left rest = rest v left
-going Not left rest = along lost left
+abbrev pub going : Option ℕ → List ℕ → (ℕ → List ℕ → Along) → Along
+going (Some v) left rest = rest v left
+going None left rest = along lost left
 
 -- the fields of a line after the word that ends at `at`, which stands for the number `before`: one
 -- for each kind, and the last ends the line

@@ -3,16 +3,16 @@
 #![tactic(auto)]
 
 ghost use Rattle.std.specs.Prelude.{◌≡◌, ◌≤◌, length};
+ghost use Rattle.octets.specs.Told.{told};
 ghost use Rattle.octets.specs.Answer.{accepted};
 ghost use Rattle.octets.specs.Filled.{leaving};
-ghost use Rattle.octets.specs.Told.{written_told};
 ghost use Rattle.layout.specs.Container.{parts_of};
 ghost use Rattle.parts.specs.Spans.{part_of};
 ghost use Rattle.family.specs.Family.{rewrite_of};
 
-use layout::{Row, Shape};
-use octets::Written;
-use parts::{Body, Parts, Span};
+use layout::Shape;
+use octets::Refusal;
+use parts::{Parts, Span};
 
 // Reads a message of a family whose header has that width, whose longest message has `most` octets,
 // and whose table says `row` of the message's type;
@@ -24,20 +24,18 @@ pub fn rewrite(
     message: &[u8],
     width: u8,
     most: u16,
-    row: Row,
+    row: Option<Shape>,
     head: &[u8],
     out: &mut [u8],
-) -> Written
-    ensures { leaving (written_told result) out.new ≡
+) -> Result<usize, Refusal>
+    ensures { leaving (told result) out.new ≡
         rewrite_of message.now width most row head.now out.old }
 {
-    match reading::read_parts(message, width, most as usize, row) {
-        Body::Broken(n, at) => Written::Refused(n, at),
-        Body::Laid(parts) => match row {
-            Row::Unknown => Written::Refused(3, 0),
-            Row::Has(shape) => again(message, width, most, shape, parts, head, out),
-        },
-    }
+    let parts = reading::read_parts(message, width, most as usize, row)?;
+    let Some(shape) = row else {
+        return Err(Refusal::UnknownType(0));
+    };
+    again(message, width, most, shape, parts, head, out)
 }
 
 // Writes again what a message says that reads so.
@@ -49,10 +47,10 @@ fn again(
     parts: Parts,
     head: &[u8],
     out: &mut [u8],
-) -> Written
-    requires { parts_of message.now width most (Row.Has shape) ≡ accepted parts }
-    ensures { leaving (written_told result) out.new ≡
-        rewrite_of message.now width most (Row.Has shape) head.now
+) -> Result<usize, Refusal>
+    requires { parts_of message.now width most (Some shape) ≡ accepted parts }
+    ensures { leaving (told result) out.new ≡
+        rewrite_of message.now width most (Some shape) head.now
         out.old }
 {
     let kind = heads::kind_at(message, width);

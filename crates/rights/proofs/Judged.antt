@@ -9,6 +9,7 @@ use native.Mathlib.Omega.{arith}
 use borrow.Author.Tests.{eq-eqb, eqb-true, eqb-false, ltb-true, ltb-false}
 use lib.Dec.{ltb, eqb}
 use lib.ListN.{length}
+use Rattle.std.specs.Prelude.{is_some}
 use Rattle.octets.specs.Octet.{octet}
 use Rattle.octets.specs.Choice.{when◌then◌else◌}
 use Rattle.octets.specs.Among.{among, OneOf}
@@ -31,7 +32,7 @@ use Rattle.asks.specs.Faults.{range_given}
 use Rattle.asks.proofs.Types.{type-is}
 use Rattle.asks.proofs.Judged.{of-reads, asked-names}
 use Rattle.rights.specs.Tables.{Tables, sized}
-use Rattle.rights.specs.Rights.{is_mine, has_right, may_help, first_foreign_lem, first_unowned_lem, first_illegal_lem, is_found}
+use Rattle.rights.specs.Rights.{is_mine, has_right, may_help, first_foreign_lem, first_unowned_lem, first_illegal_lem}
 use Rattle.rights.specs.Names.{HasRight, Named}
 use Rattle.rights.specs.Permits.{is_taken, is_unhelpable, permitted_of, permitted_in}
 use Rattle.rights.specs.Faults.{WrongTables, NamedBy, Foreign, Helpable, OnlyHelped, Illegal, Taken, right_faults, permit_faults}
@@ -138,18 +139,18 @@ module _ (T : Tables) (sender : ℕ) (m : List ℕ) (x : Message) (f : WellForme
   so-named c w = (omega (arith, names.0, w.0), omega (arith, names.0, names.1, w.1))
 
   -- where 19 is past every named circuit is owned or helped
-  right-held : is_found (first_foreign_lem T.owners T.helpers sender a.circuit (a.range + 1)) ≡ false → (c : ℕ) → Named a c → HasRight T sender c
+  right-held : is_some (first_foreign_lem T.owners T.helpers sender a.circuit (a.range + 1)) ≡ false → (c : ℕ) → Named a c → HasRight T sender c
   right-held t c n = right_is T sender c (found_none (has_right T.owners T.helpers sender) a.circuit (a.range + 1) t c n.0 (omega (arith, n.1)))
 
   -- what a helper may do is what the list has
   may-help : (may_help a.act a.block ≡ true) ↔ Helpable m x
   may-help = subst (λ (b : Ask). (may_help b.act b.block ≡ true) ↔ Helpable m x) k.2 (help-by m x k.0 (type-is x.kind k.0 k.1))
 
-  only-helped : is_found (first_foreign_lem T.owners T.helpers sender a.circuit (a.range + 1)) ≡ false → is_unhelpable T sender a ≡ true → OnlyHelped T sender m x
+  only-helped : is_some (first_foreign_lem T.owners T.helpers sender a.circuit (a.range + 1)) ≡ false → is_unhelpable T sender a ≡ true → OnlyHelped T sender m x
   unfolding is_unhelpable
   only-helped t v = go (may_help a.act a.block) refl v
     where
-      go : (b : Bool) → may_help a.act a.block ≡ b → (when b then false else is_found (first_unowned_lem T.owners sender a.circuit (a.range + 1))) ≡ true → OnlyHelped T sender m x
+      go : (b : Bool) → may_help a.act a.block ≡ b → (when b then false else is_some (first_unowned_lem T.owners sender a.circuit (a.range + 1))) ≡ true → OnlyHelped T sender m x
       go true p h = absurd (true-false {t = false} h refl)
       go false p h =
           let s = found_some (is_mine T.owners sender) a.circuit (a.range + 1) h in
@@ -161,7 +162,7 @@ module _ (T : Tables) (sender : ℕ) (m : List ℕ) (x : Message) (f : WellForme
   unfolding is_unhelpable
   not-only-helped v w = go (may_help a.act a.block) refl v
     where
-      go : (b : Bool) → may_help a.act a.block ≡ b → (when b then false else is_found (first_unowned_lem T.owners sender a.circuit (a.range + 1))) ≡ false → ⊥
+      go : (b : Bool) → may_help a.act a.block ≡ b → (when b then false else is_some (first_unowned_lem T.owners sender a.circuit (a.range + 1))) ≡ false → ⊥
       go true p h = w.0 (may-help.0 p)
       go false p h =
           let q = named-so w.1.0 w.1.1 in
@@ -171,7 +172,7 @@ module _ (T : Tables) (sender : ℕ) (m : List ℕ) (x : Message) (f : WellForme
   pub permitted-judges : Judges (permitted_of T sender a) (right_faults T sender m)
   unfolding permitted_of
   permitted-judges =
-      judges-if (is_found (first_foreign_lem T.owners T.helpers sender a.circuit (a.range + 1)))
+      judges-if (is_some (first_foreign_lem T.owners T.helpers sender a.circuit (a.range + 1)))
       (λ t.
       let s = found_some (has_right T.owners T.helpers sender) a.circuit (a.range + 1) t in
       let n : Named a s.0 = (s.1.from, omega (arith, s.1.within)) in
@@ -189,7 +190,7 @@ module _ (T : Tables) (sender : ℕ) (m : List ℕ) (x : Message) (f : WellForme
       (λ v. (x, f, only-helped t v))
       (λ v h. not-only-helped v (of-reads m x f (OnlyHelped T sender m) h))
       (λ v.
-      judges-if (is_found (first_illegal_lem T.states a.circuit (a.range + 1)))
+      judges-if (is_some (first_illegal_lem T.states a.circuit (a.range + 1)))
       (λ u.
       let s = found_some (λ c. is_legal (octet T.states c)) a.circuit (a.range + 1) u in
       let n : Named a s.0 = (s.1.from, omega (arith, s.1.within)) in

@@ -8,12 +8,11 @@ use native.Mathlib.Omega.{arith}
 use native.Mathlib.Nat.{eq-or-lt_of_le}
 use borrow.Author.Tests.{eqb-true, eqb-false, ltb-true, ltb-false}
 use lib.Dec.{eqb, ltb}
+use Rattle.std.specs.Prelude.{is_some, Option, Some, None}
 use Rattle.octets.specs.Octet.{octet}
 use Rattle.octets.specs.Choice.{when◌then◌else◌}
 use Rattle.octets.proofs.Choice.{decided, true-false}
-use Rattle.rights.specs.declared.Search.{Search}
-use Rattle.rights.specs.declared.Search.TheVariants.{At, Nowhere}
-use Rattle.rights.specs.Rights.{is_mine, has_right, first_not, first_foreign_lem, is_found, IsFirst}
+use Rattle.rights.specs.Rights.{is_mine, has_right, first_not, first_foreign_lem, IsFirst}
 use Rattle.rights.specs.Tables.{Tables}
 use Rattle.rights.specs.Names.{Mine, HasRight}
 
@@ -50,24 +49,24 @@ not_right T sender circuit e = go (is_mine T.owners sender circuit) refl e
 -- ---- a search
 module _ (good : ℕ → Bool) where
   -- what each answer of a search says
-  abbrev Means : ℕ → ℕ → Search → Type 0
-  Means circuit n (At c) = IsFirst good circuit n c
-  Means circuit n Nowhere = (j : ℕ) → circuit ≤ j → j < circuit + n → good j ≡ true
+  abbrev Means : ℕ → ℕ → Option ℕ → Type 0
+  Means circuit n (Some c) = IsFirst good circuit n c
+  Means circuit n None = (j : ℕ) → circuit ≤ j → j < circuit + n → good j ≡ true
 
   -- one circuit more in front
   front : (circuit k : ℕ) → good circuit ≡ true → ((j : ℕ) → suc circuit ≤ j → j < k → good j ≡ true) → (j : ℕ) → circuit ≤ j → j < k → good j ≡ true
   front circuit k e m j h l = ⊎_elim (λ q. rw (← q) e) (λ q. m j q l) (eq-or-lt_of_le h)
 
-  in-front : (circuit n : ℕ) → good circuit ≡ true → (f : Search) → Means (suc circuit) n f → Means circuit (suc n) f
-  in-front circuit n e (At k) m = record {
+  in-front : (circuit n : ℕ) → good circuit ≡ true → (f : Option ℕ) → Means (suc circuit) n f → Means circuit (suc n) f
+  in-front circuit n e (Some k) m = record {
     from = omega arith;
     within = omega arith;
     bad = m.bad;
     before = front circuit k e m.before;
   }
-  in-front circuit n e Nowhere m = λ j h l. front circuit (suc circuit + n) e m j h (omega arith)
+  in-front circuit n e None m = λ j h l. front circuit (suc circuit + n) e m j h (omega arith)
 
-  step : (circuit n : ℕ) (b : Bool) → good circuit ≡ b → Means (suc circuit) n (first_not good (suc circuit) n) → Means circuit (suc n) (when b then first_not good (suc circuit) n else At circuit)
+  step : (circuit n : ℕ) (b : Bool) → good circuit ≡ b → Means (suc circuit) n (first_not good (suc circuit) n) → Means circuit (suc n) (when b then first_not good (suc circuit) n else Some circuit)
   step circuit n true e m = in-front circuit n e (first_not good (suc circuit) n) m
   step circuit n false e m = record {
     from = omega arith;
@@ -91,47 +90,47 @@ module _ (good : ℕ → Bool) where
 
   module _ (circuit n : ℕ) where
     -- the search ends at the first that is not as it should be, and nowhere else
-    pub search-exactly : (c : ℕ) → (first_not good circuit n ≡ At c) ↔ IsFirst good circuit n c
+    pub search-exactly : (c : ℕ) → (first_not good circuit n ≡ Some c) ↔ IsFirst good circuit n c
     search-exactly c = (
-      λ e. subst (λ (f : Search). Means circuit n f) e (means circuit n),
+      λ e. subst (λ (f : Option ℕ). Means circuit n f) e (means circuit n),
       λ f. back (first_not good circuit n) (means circuit n) f,
     )
       where
-        back : (r : Search) → Means circuit n r → IsFirst good circuit n c → r ≡ At c
-        back (At d) m f = ap At (omega (arith, first_one circuit n d c m f, first_one circuit n c d f m))
-        back Nowhere m f = absurd (true-false (m c f.from f.within) f.bad)
+        back : (r : Option ℕ) → Means circuit n r → IsFirst good circuit n c → r ≡ Some c
+        back (Some d) m f = ap Some (omega (arith, first_one circuit n d c m f, first_one circuit n c d f m))
+        back None m f = absurd (true-false (m c f.from f.within) f.bad)
 
     -- and comes upon none where all are
-    pub search-nowhere : (first_not good circuit n ≡ Nowhere) ↔ ((j : ℕ) → circuit ≤ j → j < circuit + n → good j ≡ true)
+    pub search-nowhere : (first_not good circuit n ≡ None) ↔ ((j : ℕ) → circuit ≤ j → j < circuit + n → good j ≡ true)
     search-nowhere = (
-      λ e. subst (λ (f : Search). Means circuit n f) e (means circuit n),
+      λ e. subst (λ (f : Option ℕ). Means circuit n f) e (means circuit n),
       λ all. back (first_not good circuit n) (means circuit n) all,
     )
       where
-        back : (r : Search) → Means circuit n r → ((j : ℕ) → circuit ≤ j → j < circuit + n → good j ≡ true) → r ≡ Nowhere
-        back (At d) m all = absurd (true-false (all d m.from m.within) m.bad)
-        back Nowhere m all = refl
+        back : (r : Option ℕ) → Means circuit n r → ((j : ℕ) → circuit ≤ j → j < circuit + n → good j ≡ true) → r ≡ None
+        back (Some d) m all = absurd (true-false (all d m.from m.within) m.bad)
+        back None m all = refl
 
-    pub found_some : is_found (first_not good circuit n) ≡ true → (c : ℕ) × IsFirst good circuit n c
+    pub found_some : is_some (first_not good circuit n) ≡ true → (c : ℕ) × IsFirst good circuit n c
     found_some e = go (first_not good circuit n) (means circuit n) e
       where
-        go : (r : Search) → Means circuit n r → is_found r ≡ true → (c : ℕ) × IsFirst good circuit n c
-        go (At c) m h = (c, m)
-        go Nowhere m h = absurd (true-false {t = false} h refl)
+        go : (r : Option ℕ) → Means circuit n r → is_some r ≡ true → (c : ℕ) × IsFirst good circuit n c
+        go (Some c) m h = (c, m)
+        go None m h = absurd (true-false {t = false} h refl)
 
-    pub none_found : ((j : ℕ) → circuit ≤ j → j < circuit + n → good j ≡ true) → is_found (first_not good circuit n) ≡ false
-    none_found all = ap is_found (search-nowhere.1 all)
+    pub none_found : ((j : ℕ) → circuit ≤ j → j < circuit + n → good j ≡ true) → is_some (first_not good circuit n) ≡ false
+    none_found all = ap is_some (search-nowhere.1 all)
 
-    pub found_none : is_found (first_not good circuit n) ≡ false → (j : ℕ) → circuit ≤ j → j < circuit + n → good j ≡ true
+    pub found_none : is_some (first_not good circuit n) ≡ false → (j : ℕ) → circuit ≤ j → j < circuit + n → good j ≡ true
     found_none e = go (first_not good circuit n) (means circuit n) e
       where
-        go : (r : Search) → Means circuit n r → is_found r ≡ false → (j : ℕ) → circuit ≤ j → j < circuit + n → good j ≡ true
-        go (At c) m h = absurd (true-false {t = true} refl h)
-        go Nowhere m h = m
+        go : (r : Option ℕ) → Means circuit n r → is_some r ≡ false → (j : ℕ) → circuit ≤ j → j < circuit + n → good j ≡ true
+        go (Some c) m h = absurd (true-false {t = true} refl h)
+        go None m h = m
 
 -- the search for a foreign circuit ends at the first on which the sender has no right: it has none
 -- there, and has one on all before it
-pub first-foreign-exactly : (owners helpers : List ℕ) (sender circuit n c : ℕ) → (first_foreign_lem owners helpers sender circuit n ≡ At c) ↔ IsFirst (has_right owners helpers sender) circuit n c
+pub first-foreign-exactly : (owners helpers : List ℕ) (sender circuit n c : ℕ) → (first_foreign_lem owners helpers sender circuit n ≡ Some c) ↔ IsFirst (has_right owners helpers sender) circuit n c
 first-foreign-exactly owners helpers sender circuit n c = search-exactly (has_right owners helpers sender) circuit n c
 
 -- the same tests on the span, the same answer

@@ -5,17 +5,17 @@ use mathlib.Core.Path.{◌≡◌}
 use mathlib.Core.Bool.{Bool, true, false}
 use native.Mathlib.Omega.{arith}
 use native.Mathlib.Numerals.{add-one}
-use Rattle.rights.specs.declared.Search.TheVariants.{At, Nowhere}
+use Rattle.std.specs.Prelude.{Some, None}
 use Rattle.rights.specs.Rights.{first_not}
 
 module _ (good : ℕ → Bool) (circuit : ℕ) where
   -- no circuit is left
-  pub search-done : (n : ℕ) → n ≡ 0 → first_not good circuit n ≡ Nowhere
+  pub search-done : (n : ℕ) → n ≡ 0 → first_not good circuit n ≡ None
   unfolding first_not
   search-done n e = rw e
 
   -- this one ends it
-  pub search-ends : (n : ℕ) → 0 < n → good circuit ≡ false → first_not good circuit n ≡ At circuit
+  pub search-ends : (n : ℕ) → 0 < n → good circuit ≡ false → first_not good circuit n ≡ Some circuit
   unfolding first_not
   search-ends zero h e = absurd (omega arith)
   search-ends (suc n) h e = rw e

@@ -1,5 +1,5 @@
 -- What a sender may do on the circuits that are named. Order: 19, 22, 20, 21.
-use Rattle.std.specs.Prelude.{ℕ, ◌+◌, Bool, false, not, List, ltb, eqb}
+use Rattle.std.specs.Prelude.{ℕ, ◌+◌, Bool, false, not, List, ltb, eqb, is_some}
 use Rattle.octets.specs.Octet.{octet}
 use Rattle.octets.specs.Choice.{when◌then◌else◌}
 use Rattle.octets.specs.Answer.{Answer, accepted, refused}
@@ -7,7 +7,7 @@ use Rattle.rows.specs.declared.Act.{Act}
 use Rattle.rows.specs.declared.Act.TheVariants.{Seize, Release, Reset, Block, Unblock, ResetGroup, BlockGroup, UnblockGroup, Query}
 use Rattle.asks.specs.declared.Ask.{Ask}
 use Rattle.rights.specs.Tables.{Tables, sized}
-use Rattle.rights.specs.Rights.{may_help, first_foreign_lem, first_unowned_lem, first_illegal_lem, is_found}
+use Rattle.rights.specs.Rights.{may_help, first_foreign_lem, first_unowned_lem, first_illegal_lem}
 
 -- IAM on a circuit that is busy or blocked, by the far side or by us
 abbrev pub is_taken : List ℕ → Act → ℕ → Bool
@@ -25,16 +25,16 @@ is_taken states Query circuit = false
 unfoldable pub is_unhelpable : Tables → ℕ → Ask → Bool
 is_unhelpable T sender a =
     when may_help a.act a.block then false
-    else is_found (first_unowned_lem T.owners sender a.circuit (a.range + 1))
+    else is_some (first_unowned_lem T.owners sender a.circuit (a.range + 1))
 
 -- 19 where the sender has no right on a named circuit, 22 where it only helps one and
 -- a helper may not do the act, 20 where a named circuit's row is not legal, 21 for
 -- IAM on a circuit that is busy or blocked
 unfoldable pub permitted_of : Tables → ℕ → Ask → Answer Ask
 permitted_of T sender a =
-    when is_found (first_foreign_lem T.owners T.helpers sender a.circuit (a.range + 1)) then refused 19 0
+    when is_some (first_foreign_lem T.owners T.helpers sender a.circuit (a.range + 1)) then refused 19 0
     else when is_unhelpable T sender a then refused 22 0
-    else when is_found (first_illegal_lem T.states a.circuit (a.range + 1)) then refused 20 0
+    else when is_some (first_illegal_lem T.states a.circuit (a.range + 1)) then refused 20 0
     else when is_taken T.states a.act a.circuit then refused 21 0
     else accepted a
 

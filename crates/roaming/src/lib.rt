@@ -10,8 +10,9 @@ ghost use Rattle.sccp.specs.Write.{sccp_write_of};
 ghost use Rattle.boundary.specs.Boundary.{given, given_by, fixed_start_lem};
 ghost use Rattle.roaming.specs.Roaming.{SmallSccp, sccp_values_of, sccp_read_gives};
 
+use octets::Refusal;
 use parts::Span;
-use sccp::{Message, Reading};
+use sccp::Message;
 
 // How many octets a span has.
 fn size_of(span: Span) -> u16
@@ -64,10 +65,10 @@ pub extern "C" fn llachurep_sccp_read(message: &[u8], parts: &mut [u16]) -> u32
         given_by (sccp_read_gives message.now parts.old) }
 {
     match sccp_codec::read(message) {
-        Reading::Refused(n, at) => telling::refusal(n, at),
-        Reading::Read(x) => {
+        Err(why) => telling::refused(why),
+        Ok(x) => {
             if parts.len() < 11 {
-                return telling::refusal(13, 0);
+                return telling::refused(Refusal::NoRoom);
             }
             put_sccp_values(x, parts);
             11

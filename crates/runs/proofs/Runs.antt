@@ -1,5 +1,6 @@
 -- How a run of steps stops, told by the parameters that stand in the
 -- message, and the other way round.
+use Rattle.std.specs.Prelude.{Option, Some, None}
 use Prim.Native.Nat.{ℕ, zero, suc, ◌+◌, ◌≤◌, ◌<◌}
 use mathlib.Core.Path.{◌≡◌, refl, sym, ◌∙◌, ap, subst}
 use mathlib.Core.List.{List, [], ◌∷◌}
@@ -15,8 +16,6 @@ use Rattle.runs.specs.declared.Step.{Step}
 use Rattle.runs.specs.declared.Step.TheVariants.{Param as Found-param, Close, End, Pass}
 use Rattle.runs.specs.declared.Stop.{Stop}
 use Rattle.runs.specs.declared.Stop.TheVariants.{Closed, Ended, Passed}
-use Rattle.runs.specs.declared.Found.{Found}
-use Rattle.runs.specs.declared.Found.TheVariants.{At, Nowhere}
 use Rattle.runs.specs.Run.{next, step_at_lem, stepped, stops, stop_from, sought, seeks, named_from}
 use Rattle.runs.specs.Params.{Param, ParamAt, Params, Closes, Ends, Whole, NoneNamed, FirstNamed, Passes}
 use Rattle.runs.proofs.Steps.{FieldAt, step-says, at-close, at-end, at-pass, at-param, stops-more, stops-close, stops_end, stops-pass, seeks-more, seeks-here, seeks-over}
@@ -125,14 +124,14 @@ seeks-past (q ∷ qs) k name m i z p o n =
     (r.0, r.1, s.2 ∙ ap (seeks s.0 m name) f.2 ∙ r.2)
 
 -- none has the name
-pub none-nowhere : (qs : List Param) (m : List ℕ) (i name z : ℕ) → Params m i qs z → Ends m z → NoneNamed name qs → named_from m i name ≡ Nowhere
+pub none-nowhere : (qs : List Param) (m : List ℕ) (i name z : ℕ) → Params m i qs z → Ends m z → NoneNamed name qs → named_from m i name ≡ None
 unfolding named_from
 none-nowhere qs m i name z p s o =
     let r = seeks-past qs (suc (length m)) name m i z p o (omega arith) in
     r.2 ∙ ⊎_elim (λ c. seeks-over m z r.0 name Close (at-close m z c) tt) (⊎_elim (λ e. seeks-over m z r.0 name End (at-end m z e) tt) (λ e. seeks-over m z r.0 name Pass (at-pass m z e) tt)) s
 
 -- the first that has it
-pub first-at : (qs : List Param) (m : List ℕ) (i name a n : ℕ) → FirstNamed m i qs name a n → named_from m i name ≡ At a n
+pub first-at : (qs : List Param) (m : List ℕ) (i name a n : ℕ) → FirstNamed m i qs name a n → named_from m i name ≡ Some (a, n)
 unfolding named_from
 first-at qs m i name a n x =
     let r = seeks-past x.before (suc (length m)) name m i x.place x.behind x.others (omega arith) in
@@ -140,7 +139,7 @@ first-at qs m i name a n x =
     let h = seeks-here m x.place r.0 name f.0 r.1 f.1 (f.3 ∙ x.named) in
     let ea : f.0.at ≡ a = f.4 ∙ sym x.starts in
     let en : f.0.len ≡ n = omega (arith, f.2, x.ends, ea) in
-    r.2 ∙ h ∙ (λ j. At (ea j) (en j))
+    r.2 ∙ h ∙ (λ j. Some ((ea j), (en j)))
 
 -- one or the other
 pub named-or-not : (qs : List Param) (m : List ℕ) (i z name : ℕ) → Params m i qs z → NoneNamed name qs ⊎ ((a n : ℕ) × FirstNamed m i qs name a n)
@@ -178,20 +177,21 @@ named-or-not (q ∷ qs) m i z name p = go (named-or-not qs m p.0 z name p.2) (�
 
 -- ---- among parameters that are known: the search finds the first of that name, and nothing exactly when none has it
 module _ (qs : List Param) (m : List ℕ) (i name z : ℕ) (p : Params m i qs z) (s : Ends m z) where
-  pub named-among : (a n : ℕ) → (named_from m i name ≡ At a n) ↔ FirstNamed m i qs name a n
+  pub named-among : (a n : ℕ) → (named_from m i name ≡ Some (a, n)) ↔ FirstNamed m i qs name a n
   named-among a n = (
     λ h. ⊎_elim
         (λ o. absurd (let e = none-nowhere qs m i name z p s o in let n : ◌≡◌ {A = ℕ} 0 1 = cc in omega arith))
         (λ y.
         let e = first-at qs m i name y.0 y.1 y.2 in
-        let ea : y.0 ≡ a = cc in
-        let en : y.1 ≡ n = cc in
+        let both : ◌≡◌ {A = ℕ × ℕ} (y.0, y.1) (a, n) = cc in
+        let ea : y.0 ≡ a = ap (λ (x : ℕ × ℕ). x.0) both in
+        let en : y.1 ≡ n = ap (λ (x : ℕ × ℕ). x.1) both in
         subst (λ (z : ℕ). FirstNamed m i qs name z n) ea (subst (λ (z : ℕ). FirstNamed m i qs name y.0 z) en y.2))
         (named-or-not qs m i z name p),
     first-at qs m i name a n,
   )
 
-  pub nowhere-among : (named_from m i name ≡ Nowhere) ↔ NoneNamed name qs
+  pub nowhere-among : (named_from m i name ≡ None) ↔ NoneNamed name qs
   nowhere-among = (
     λ h. ⊎_elim
         (λ o. o)
@@ -214,7 +214,7 @@ pub whole-one : (m : List ℕ) (i : ℕ) (qs qs' : List Param) → Whole m i qs 
 whole-one m i qs qs' x y = (params-unique qs qs' m i x.0 y.0 x.1 y.1 x.2 y.2).0
 
 -- found exactly when it is the first of that name among them
-pub named-exactly : (m : List ℕ) (i name a n : ℕ) → (named_from m i name ≡ At a n) ↔ ((qs : List Param) × Whole m i qs × FirstNamed m i qs name a n)
+pub named-exactly : (m : List ℕ) (i name a n : ℕ) → (named_from m i name ≡ Some (a, n)) ↔ ((qs : List Param) × Whole m i qs × FirstNamed m i qs name a n)
 named-exactly m i name a n =
     let w = whole-somehow m i in (
       λ h. (w.0, w.1, (named-among w.0 m i name w.1.0 w.1.1 w.1.2 a n).0 h),
@@ -222,7 +222,7 @@ named-exactly m i name a n =
     )
 
 -- nothing exactly when none of them has the name
-pub nowhere-exactly : (m : List ℕ) (i name : ℕ) → (named_from m i name ≡ Nowhere) ↔ ((qs : List Param) × Whole m i qs × NoneNamed name qs)
+pub nowhere-exactly : (m : List ℕ) (i name : ℕ) → (named_from m i name ≡ None) ↔ ((qs : List Param) × Whole m i qs × NoneNamed name qs)
 nowhere-exactly m i name =
     let w = whole-somehow m i in (
       λ h. (w.0, w.1, (nowhere-among w.0 m i name w.1.0 w.1.1 w.1.2).0 h),
@@ -230,27 +230,27 @@ nowhere-exactly m i name =
     )
 
 -- no parameter has the name 0, so none of that name is found
-pub zero-nowhere : (m : List ℕ) (i : ℕ) → named_from m i 0 ≡ Nowhere
+pub zero-nowhere : (m : List ℕ) (i : ℕ) → named_from m i 0 ≡ None
 zero-nowhere m i = go (named_from m i 0) refl
   where
-    go : (x : Found) → named_from m i 0 ≡ x → x ≡ Nowhere
-    go Nowhere e = refl
-    go (At a n) e = absurd (let x = ((named-exactly m i 0 a n).0 e).2 in x.stands.not-zero (sym x.stands.named ∙ x.named))
+    go : (x : Option (ℕ × ℕ)) → named_from m i 0 ≡ x → x ≡ None
+    go None e = refl
+    go (Some (a, n)) e = absurd (let x = ((named-exactly m i 0 a n).0 e).2 in x.stands.not-zero (sym x.stands.named ∙ x.named))
 
 -- what is found lies within the octets
-seeks-inside : (k : ℕ) (m : List ℕ) (name i a n : ℕ) → seeks k m name i ≡ At a n → a + n ≤ length m
+seeks-inside : (k : ℕ) (m : List ℕ) (name i a n : ℕ) → seeks k m name i ≡ Some (a, n) → a + n ≤ length m
 unfolding seeks
 seeks-inside zero m name i a n h = absurd (let z : ◌≡◌ {A = ℕ} 0 1 = cc in omega arith)
 seeks-inside (suc k) m name i a n h = go (step_at_lem m i) refl h (λ f. seeks-inside k m name (f.at + f.len) a n)
   where
-    go : (x : Step) → step_at_lem m i ≡ x → sought name (seeks k m name) x ≡ At a n → ((f : Field) → seeks k m name (f.at + f.len) ≡ At a n → a + n ≤ length m) → a + n ≤ length m
+    go : (x : Step) → step_at_lem m i ≡ x → sought name (seeks k m name) x ≡ Some (a, n) → ((f : Field) → seeks k m name (f.at + f.len) ≡ Some (a, n) → a + n ≤ length m) → a + n ≤ length m
     go (Found-param f) e h ih =
         let y = step-says m i _ e in
-        ⊎_elim (λ t. let q = t.1 in let qa : f.at ≡ a = cc in let qn : f.len ≡ n = cc in omega arith) (λ t. ih f t.1) (chosen (eqb f.name name) h)
+        ⊎_elim (λ t. let q = t.1 in let both : ◌≡◌ {A = ℕ × ℕ} (f.at, f.len) (a, n) = cc in let qa = ap (λ (x : ℕ × ℕ). x.0) both in let qn = ap (λ (x : ℕ × ℕ). x.1) both in omega arith) (λ t. ih f t.1) (chosen (eqb f.name name) h)
     go Close e h ih = absurd (let z : ◌≡◌ {A = ℕ} 0 1 = cc in omega arith)
     go End e h ih = absurd (let z : ◌≡◌ {A = ℕ} 0 1 = cc in omega arith)
     go Pass e h ih = absurd (let z : ◌≡◌ {A = ℕ} 0 1 = cc in omega arith)
 
-pub named-inside : (m : List ℕ) (i name a n : ℕ) → named_from m i name ≡ At a n → a + n ≤ length m
+pub named-inside : (m : List ℕ) (i name a n : ℕ) → named_from m i name ≡ Some (a, n) → a + n ≤ length m
 unfolding named_from
 named-inside m i name a n h = seeks-inside (suc (length m)) m name i a n h

@@ -1,5 +1,6 @@
 -- What a step and a run of steps do, from the facts and not the tests. Each holds at any bound on
 -- the steps that is enough, so no proof compares two bounds.
+use Rattle.std.specs.Prelude.{Some, None}
 use Prim.Native.Nat.{ℕ, zero, suc, ◌+◌, ◌≤◌, ◌<◌}
 use mathlib.Core.Path.{◌≡◌, refl}
 use mathlib.Core.List.{List}
@@ -14,7 +15,6 @@ use Rattle.runs.specs.declared.Field.{Field}
 use Rattle.runs.specs.declared.Step.{Step}
 use Rattle.runs.specs.declared.Step.TheVariants.{Param, Close, End, Pass}
 use Rattle.runs.specs.declared.Stop.TheVariants.{Closed, Ended, Passed}
-use Rattle.runs.specs.declared.Found.TheVariants.{At, Nowhere}
 use Rattle.runs.specs.Run.{next, step_at_lem, stops, seeks}
 use Rattle.runs.specs.Params.{Closes, Passes}
 
@@ -91,7 +91,7 @@ module _ (m : List ℕ) (i : ℕ) where
   seeks-more zero name f n h d = let x = step-says m i _ h in absurd (omega arith)
   seeks-more (suc k) name f n h d = let x = step-says m i _ h in (k, omega arith, rw (h, ne_eqb _ _ d))
 
-  pub seeks-here : (k name : ℕ) (f : Field) → length m < i + k → step_at_lem m i ≡ Param f → f.name ≡ name → seeks k m name i ≡ At f.at f.len
+  pub seeks-here : (k name : ℕ) (f : Field) → length m < i + k → step_at_lem m i ≡ Param f → f.name ≡ name → seeks k m name i ≡ Some (f.at, f.len)
   unfolding seeks
   seeks-here zero name f n h d = let x = step-says m i _ h in absurd (omega arith)
   seeks-here (suc k) name f n h d = rw (h, eq-eqb _ _ d)
@@ -103,7 +103,7 @@ module _ (m : List ℕ) (i : ℕ) where
   Over End = Unit {0}
   Over Pass = Unit {0}
 
-  pub seeks-over : (k name : ℕ) (x : Step) → step_at_lem m i ≡ x → Over x → seeks k m name i ≡ Nowhere
+  pub seeks-over : (k name : ℕ) (x : Step) → step_at_lem m i ≡ x → Over x → seeks k m name i ≡ None
   unfolding seeks
   seeks-over zero name x h o = refl
   seeks-over (suc k) name (Param f) h o = absurd o

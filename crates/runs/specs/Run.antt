@@ -1,5 +1,6 @@
 -- A run of optional parameters: name (not 0), length, contents, one after the other; in a message,
 -- closed by a 0 where a name would stand.
+use Rattle.std.specs.Prelude.{Option, Some, None}
 use Rattle.std.specs.Prelude.{ℕ, zero, suc, ◌+◌, Bool, true, false, List, length, ltb, leb, eqb}
 use Rattle.octets.specs.Octet.{octet}
 use Rattle.octets.specs.Choice.{when◌then◌else◌}
@@ -7,8 +8,6 @@ use Rattle.runs.specs.declared.Step.{Step}
 use Rattle.runs.specs.declared.Step.TheVariants.{Param, Close, End, Pass}
 use Rattle.runs.specs.declared.Stop.{Stop}
 use Rattle.runs.specs.declared.Stop.TheVariants.{Closed, Ended, Passed}
-use Rattle.runs.specs.declared.Found.{Found}
-use Rattle.runs.specs.declared.Found.TheVariants.{At, Nowhere}
 
 -- past an optional parameter whose name stands at i: the name, a length
 -- octet, then that many octets
@@ -51,18 +50,18 @@ unfoldable pub is_run_lem : List ℕ → Bool
 is_run_lem r = ended (stop_from r 0)
 
 -- the first parameter of a name: go on past the others
-abbrev pub sought : ℕ → (ℕ → Found) → Step → Found
-sought name on (Param f) = when eqb f.name name then At f.at f.len else on (f.at + f.len)
-sought name on Close = Nowhere
-sought name on End = Nowhere
-sought name on Pass = Nowhere
+abbrev pub sought : ℕ → (ℕ → (Option (ℕ × ℕ))) → Step → Option (ℕ × ℕ)
+sought name on (Param f) = when eqb f.name name then Some (f.at, f.len) else on (f.at + f.len)
+sought name on Close = None
+sought name on End = None
+sought name on Pass = None
 
 -- the search from i on, with a bound on the steps
-unfoldable pub seeks : ℕ → List ℕ → ℕ → ℕ → Found
-seeks zero m name i = Nowhere
+unfoldable pub seeks : ℕ → List ℕ → ℕ → ℕ → Option (ℕ × ℕ)
+seeks zero m name i = None
 seeks (suc k) m name i = sought name (seeks k m name) (step_at_lem m i)
 
 -- where the first parameter of that name has its contents, and how many
 -- octets, among those from i on
-unfoldable pub named_from : List ℕ → ℕ → ℕ → Found
+unfoldable pub named_from : List ℕ → ℕ → ℕ → Option (ℕ × ℕ)
 named_from m i name = seeks (suc (length m)) m name i

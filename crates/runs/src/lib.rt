@@ -24,13 +24,6 @@ pub enum Step {
     Pass,
 }
 
-// Where the contents of the parameter that was looked for start, and how many octets they have.
-#[derive(Clone, Copy)]
-pub enum Found {
-    At(usize, usize),
-    Nowhere,
-}
-
 // How a run of parameters ends, and where: at a 0, at the end of the octets,
 // or at a parameter that passes it.
 #[derive(Clone, Copy)]
@@ -66,6 +59,7 @@ pub fn step_at(octets: &[u8], i: usize) -> Step
 pub fn run_stop(octets: &[u8], from: usize) -> Stop
     ensures { result ≡ stop_from octets.now from }
 {
+    // Goes on to the end of the parameter that it read, so it counts no index.
     let mut i = from;
     loop {
         match step_at(octets, i) {
@@ -91,23 +85,22 @@ pub fn is_run(octets: &[u8]) -> bool
     }
 }
 
-// Where the first parameter of that name has its contents, among those that
-// stand one after the other from `from` on.
-pub fn named(octets: &[u8], from: usize, name: u8) -> Found
+// Where the first parameter of that name has its contents and how many octets they have, among
+// those that stand one after the other from `from` on.
+pub fn named(octets: &[u8], from: usize, name: u8) -> Option<(usize, usize)>
     ensures { result ≡ named_from octets.now from name }
 {
+    // Goes on to the end of the parameter that it read, so it counts no index.
     let mut i = from;
     loop {
         match step_at(octets, i) {
             Step::Param(f) => {
                 if f.name == name {
-                    return Found::At(f.at, f.len);
+                    return Some((f.at, f.len));
                 }
                 i = f.at + f.len;
             }
-            Step::Close => return Found::Nowhere,
-            Step::End => return Found::Nowhere,
-            Step::Pass => return Found::Nowhere,
+            Step::Close | Step::End | Step::Pass => return None,
         }
     }
 }

@@ -3,21 +3,11 @@
 // the refusal's number with its octet.
 #![tactic(auto)]
 
-use asks::Verdict;
 use finding::Located;
-use isup::Reading;
-use number::NumberRead;
-use octets::Written;
+use octets::{Numbered, Refusal};
 use rows::CIRCUITS;
 use std::io;
 use std::io::Stdout;
-
-// Makes each octet of a table that one.
-fn fill(table: &mut [u8], octet: u8) {
-    for row in table.iter_mut() {
-        *row = octet;
-    }
-}
 
 // The front of a buffer, or all of it where it is shorter.
 fn front(buffer: &[u8], n: usize) -> &[u8] {
@@ -43,23 +33,20 @@ fn rows_of(states: &[u8], first: usize, range: usize) -> &[u8] {
 }
 
 // Puts a refusal's number, and answers the next place.
-fn put_refusal(number: u8, line: &mut [u8], at: usize) -> usize {
+fn put_refusal(why: Refusal, line: &mut [u8], at: usize) -> usize {
     let next = printing::put_text(b" refused ", line, at);
-    printing::put_number(number as usize, line, next)
+    printing::put_number(why.number() as usize, line, next)
 }
 
 // Puts a refusal's number and the octet that a reader's number from 3 to 8 is
 // about; answers the next place.
-fn put_fault(number: u8, place: usize, line: &mut [u8], at: usize) -> usize {
-    let next = put_refusal(number, line, at);
-    if number < 3 {
-        return next;
-    }
-    if 8 < number {
+fn put_fault(why: Refusal, line: &mut [u8], at: usize) -> usize {
+    let next = put_refusal(why, line, at);
+    if !(3..=8).contains(&why.number()) {
         return next;
     }
     let word = printing::put_text(b" at ", line, next);
-    printing::put_number(place, line, word)
+    printing::put_number(why.place(), line, word)
 }
 
 // Puts octets after a word, and answers the next place.
@@ -71,8 +58,8 @@ fn put_shown(word: &[u8], octets: &[u8], line: &mut [u8], at: usize) -> usize {
 // Puts the circuits that a message names and their rows, and answers the next place.
 fn put_rows(message: &[u8], states: &[u8], line: &mut [u8], at: usize) -> usize {
     match asking::decode(message) {
-        Verdict::Refused(n, place) => put_fault(n, place, line, at),
-        Verdict::Granted(ask) => {
+        Err(why) => put_fault(why, line, at),
+        Ok(ask) => {
             let first = printing::put_text(b" first circuit ", line, at);
             let rows = printing::put_number(ask.circuit, line, first);
             put_shown(
@@ -96,10 +83,10 @@ fn put_acted(
     line: &mut [u8],
     at: usize,
 ) -> usize {
-    fill(states, 0);
+    states.fill(0);
     match acting::act(states, owners, helpers, 1, message, answer) {
-        Written::Refused(n, place) => put_fault(n, place, line, at),
-        Written::Octets(n) => {
+        Err(why) => put_fault(why, line, at),
+        Ok(n) => {
             let next = put_shown(b" answer ", front(answer, n), line, at);
             put_rows(message, states, line, next)
         }
@@ -109,8 +96,8 @@ fn put_acted(
 // Puts the signals of a called number, and answers the next place.
 fn put_signals(contents: &[u8], signals: &mut [u8], line: &mut [u8], at: usize) -> usize {
     match signals::read_number(contents, signals) {
-        NumberRead::Refused(n) => put_refusal(n, line, at),
-        NumberRead::Read(x) => put_shown(b" number ", front(signals, x.count), line, at),
+        Err(why) => put_refusal(why, line, at),
+        Ok(x) => put_shown(b" number ", front(signals, x.count), line, at),
     }
 }
 
@@ -128,8 +115,8 @@ fn contents_of(message: &[u8], from: usize, to: usize) -> &[u8] {
 // Puts the called number of an IAM, and answers the next place.
 fn put_called(message: &[u8], signals: &mut [u8], line: &mut [u8], at: usize) -> usize {
     match isup_codec::read(message) {
-        Reading::Refused(n, place) => put_fault(n, place, line, at),
-        Reading::Read(x) => {
+        Err(why) => put_fault(why, line, at),
+        Ok(x) => {
             let parts = x.parts;
             let first = parts.first;
             put_signals(
@@ -145,16 +132,16 @@ fn put_called(message: &[u8], signals: &mut [u8], line: &mut [u8], at: usize) ->
 // Puts the compact form of a message, and answers the next place.
 fn put_compact(message: &[u8], out: &mut [u8], line: &mut [u8], at: usize) -> usize {
     match isup_codec::compact(message, out) {
-        Written::Refused(n, place) => put_fault(n, place, line, at),
-        Written::Octets(n) => put_shown(b" compact ", front(out, n), line, at),
+        Err(why) => put_fault(why, line, at),
+        Ok(n) => put_shown(b" compact ", front(out, n), line, at),
     }
 }
 
 // Puts the contents of the optional parameter with name 20, and answers the next place.
 fn put_found(message: &[u8], line: &mut [u8], at: usize) -> usize {
     match locating::locate(message, &message[0..0], 0x20) {
-        Located::Refused(n, place) => put_fault(n, place, line, at),
-        Located::Message(_, _) => {
+        Err(why) => put_fault(why, line, at),
+        Ok(Located::Message(_, _)) => {
             put_shown(
                 b" name 20 contents ",
                 locating::find(message, 0x20),
@@ -162,7 +149,7 @@ fn put_found(message: &[u8], line: &mut [u8], at: usize) -> usize {
                 at,
             )
         }
-        Located::Defaults(_, _) => at,
+        Ok(Located::Defaults(_, _)) => at,
     }
 }
 
@@ -433,8 +420,8 @@ fn main(rt: HostRuntime) -> io::Result<()> {
     let mut answer = [0u8; 4096];
     let mut line = [0u8; 4096];
     let output = rt.stdout();
-    fill(&mut owners, 1);
-    fill(&mut helpers, 0);
+    owners.fill(1);
+    helpers.fill(0);
     show_first(
         output,
         &mut states,

@@ -4,12 +4,12 @@
 
 ghost use Rattle.std.specs.Prelude.{◌≡◌, ◌++◌};
 ghost use Rattle.octets.specs.Octet.{octets};
-ghost use Rattle.octets.specs.Told.{written_told};
+ghost use Rattle.octets.specs.Told.{told_by};
 ghost use Rattle.printing.specs.Sheet.{sheet, pour};
 ghost use Rattle.printing.specs.Shown.{decimal_of, hex_of};
 ghost use Rattle.lines.specs.Lines.{refusal, fault_line, written_line, again_line};
 
-use octets::Written;
+use octets::Numbered;
 
 // Puts a word with a number after it, and answers the next place.
 pub fn put_count(word: &[u8], number: usize, out: &mut [u8], at: usize) -> usize
@@ -54,26 +54,28 @@ pub fn say_fault(number: u8, place: usize, out: &mut [u8]) -> usize
 }
 
 // Puts what was written to the front of a buffer, or the refusal, and answers the next place.
-pub fn say_written(written: Written, buffer: &[u8], out: &mut [u8]) -> usize
+#[tactic(auto, unfolding(lines::specs::Lines::written_line))]
+pub fn say_written<R: Numbered>(written: Result<usize, R>, buffer: &[u8], out: &mut [u8]) -> usize
     ensures { sheet out.new result ≡
         pour (sheet out.old 0)
-        (written_line (written_told written) buffer.now) }
+        (written_line (told_by R.number_in R.place_in written) buffer.now) }
 {
     match written {
-        Written::Octets(n) => put_shown(b"octets ", pieces::stretch(buffer, 0, n), out, 0),
-        Written::Refused(n, _) => say_refusal(n, out),
+        Ok(n) => put_shown(b"octets ", pieces::stretch(buffer, 0, n), out, 0),
+        Err(why) => say_refusal(why.number(), out),
     }
 }
 
 // Puts what was written again to the front of a buffer, or the refusal with the
 // reader's octet, and answers the next place.
-pub fn say_again(written: Written, buffer: &[u8], out: &mut [u8]) -> usize
+#[tactic(auto, unfolding(lines::specs::Lines::written_line, lines::specs::Lines::again_line))]
+pub fn say_again<R: Numbered>(written: Result<usize, R>, buffer: &[u8], out: &mut [u8]) -> usize
     ensures { sheet out.new result ≡
         pour (sheet out.old 0)
-        (again_line (written_told written) buffer.now) }
+        (again_line (told_by R.number_in R.place_in written) buffer.now) }
 {
     match written {
-        Written::Octets(_) => say_written(written, buffer, out),
-        Written::Refused(n, at) => say_fault(n, at, out),
+        Ok(_) => say_written(written, buffer, out),
+        Err(why) => say_fault(why.number(), why.place(), out),
     }
 }

@@ -6,10 +6,10 @@ use mathlib.Core.List.{List, [], ◌∷◌}
 use mathlib.Core.Logic.{◌↔◌}
 use native.Mathlib.Omega.{arith}
 use lib.ListN.{length}
+use Rattle.std.specs.Prelude.{Some, None}
 use Rattle.octets.specs.Among.{OneOf}
 use Rattle.octets.specs.Octet.{octet}
 use Rattle.layout.specs.declared.Shape.{Shape}
-use Rattle.layout.specs.declared.Row.TheVariants.{Has, Unknown}
 use Rattle.layout.specs.Packed.{unpacked_of}
 use Rattle.layout.proofs.Packed.{table_of, table-rows}
 use Rattle.family.proofs.Table.{no_two, all_low, look-listed, listed-look, look-at-most}
@@ -26,26 +26,26 @@ pub eighteen : (length sccp_octets ≡ 18) × (no_two sccp_octets ≡ true) × (
 eighteen = (refl, refl, refl)
 
 -- the table has a row for these, and for no other number
-pub sccp-types : (t : ℕ) → ((s : Shape) × (sccp_shape_of t ≡ Has s)) ↔ OneOf t sccp_octets
+pub sccp-types : (t : ℕ) → ((s : Shape) × (sccp_shape_of t ≡ Some s)) ↔ OneOf t sccp_octets
 unfolding sccp_shape_of
 sccp-types t = (λ x. look-listed t sccp_table x.0 x.1, λ o. listed-look t sccp_table o)
 
 -- the rows in which one pointer or three are easily taken for another: RSR and ERR have an optional
 -- part and no variable one, UDT and UDTS have three variable parts
-pub pointers-told : (sccp_shape_of 0x0D ≡ Has (record { fixed = 7; vars = 0; opt = true }))
-    × (sccp_shape_of 0x0F ≡ Has (record { fixed = 4; vars = 0; opt = true }))
-    × (sccp_shape_of 0x09 ≡ Has (record { fixed = 1; vars = 3; opt = false }))
-    × (sccp_shape_of 0x0A ≡ Has (record { fixed = 1; vars = 3; opt = false }))
+pub pointers-told : (sccp_shape_of 0x0D ≡ Some (record { fixed = 7; vars = 0; opt = true }))
+    × (sccp_shape_of 0x0F ≡ Some (record { fixed = 4; vars = 0; opt = true }))
+    × (sccp_shape_of 0x09 ≡ Some (record { fixed = 1; vars = 3; opt = false }))
+    × (sccp_shape_of 0x0A ≡ Some (record { fixed = 1; vars = 3; opt = false }))
 unfolding sccp_shape_of
 pointers-told = (refl, refl, refl, refl)
 
 -- LUDT and LUDTS are refused
-pub ludts-refused : (sccp_shape_of 0x13 ≡ Unknown) × (sccp_shape_of 0x14 ≡ Unknown)
+pub ludts-refused : (sccp_shape_of 0x13 ≡ None) × (sccp_shape_of 0x14 ≡ None)
 unfolding sccp_shape_of
 ludts-refused = (refl, refl)
 
 -- a row has at most three variable parts
-pub three : (t : ℕ) (s : Shape) → sccp_shape_of t ≡ Has s → s.vars ≤ 3
+pub three : (t : ℕ) (s : Shape) → sccp_shape_of t ≡ Some s → s.vars ≤ 3
 unfolding sccp_shape_of
 three t s e =
     look-at-most 3 t sccp_table s

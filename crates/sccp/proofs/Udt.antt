@@ -9,13 +9,13 @@ use mathlib.Core.Logic.{◌⊎◌, inl, inr, ⊎_elim, ◌↔◌}
 use native.Mathlib.Omega.{arith}
 use borrow.Author.Tests.{le-ltb}
 use lib.ListN.{length, get_or-append}
+use Rattle.std.specs.Prelude.{Some}
 use Rattle.octets.specs.Octet.{octet}
 use Rattle.octets.specs.Answer.{accepted, refused}
 use Rattle.octets.specs.Filled.{filled, leaving}
 use Rattle.octets.proofs.Choice.{decided}
 use Rattle.octets.proofs.Octet.{within-at}
 use Rattle.layout.specs.declared.Shape.{Shape}
-use Rattle.layout.specs.declared.Row.TheVariants.{Has}
 use Rattle.runs.proofs.Exactly.{is-run-exactly}
 use Rattle.writing.specs.Write.{Order, order_octets, contents_in, pointers, marks, exceeds, written_of, Fits}
 use Rattle.writing.specs.Faults.{Exceeds}
@@ -29,7 +29,7 @@ use Rattle.sccp.specs.Write.{sccp_order_of, sccp_write_in, sccp_write_of}
 abbrev pub udt : Shape
 udt = record { fixed = 1; vars = 3; opt = false }
 
-pub udt-row : sccp_shape_of 0x09 ≡ Has udt
+pub udt-row : sccp_shape_of 0x09 ≡ Some udt
 unfolding sccp_shape_of
 udt-row = refl
 

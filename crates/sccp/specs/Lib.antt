@@ -1,6 +1,5 @@
 pub mod Table
 pub mod Read
-pub mod Told
 pub mod WellFormed
 pub mod Write
 pub mod Faults

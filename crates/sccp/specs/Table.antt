@@ -2,9 +2,8 @@
 -- variable parameters, and whether there is an optional part.
 -- LUDT and LUDTS have pointers of two octets and are not in it. RSR and ERR have a pointer to an
 -- optional part, though no optional parameter is defined for them yet (footnote 1 of Table 1).
-use Rattle.std.specs.Prelude.{ℕ, true, false, List, [], ◌∷◌}
+use Rattle.std.specs.Prelude.{ℕ, true, false, List, [], ◌∷◌, Option}
 use Rattle.layout.specs.declared.Shape.{Shape}
-use Rattle.layout.specs.declared.Row.{Row}
 use Rattle.family.specs.Table.{line, look}
 use Rattle.family.specs.Family.{Family}
 
@@ -27,7 +26,7 @@ sccp_table =
     ∷ []
 
 -- what the table says of a type octet
-unfoldable pub sccp_shape_of : ℕ → Row
+unfoldable pub sccp_shape_of : ℕ → Option Shape
 sccp_shape_of t = look t sccp_table
 
 -- a message has 268 octets at the most

@@ -1,9 +1,8 @@
 -- A well-formed SCCP message, its compact form, and what a message says, as
 -- the paper says it: no order of reading.
-use Rattle.std.specs.Prelude.{ℕ, ◌≤◌, ◌≡◌, List, length}
+use Rattle.std.specs.Prelude.{ℕ, ◌≤◌, ◌≡◌, List, Some, length}
 use Rattle.octets.specs.Octet.{octet}
 use Rattle.layout.specs.declared.Shape.{Shape}
-use Rattle.layout.specs.declared.Row.TheVariants.{Has}
 use Rattle.layout.specs.Laid.{LaidOut}
 use Rattle.parts.specs.Spans.{part_of}
 use Rattle.runs.specs.Params.{Param}
@@ -18,7 +17,7 @@ pub record SccpFormed (m : List ℕ) (x : Message) : Type 0 where
   pub least : 1 ≤ length m
   pub most : length m ≤ longest_sccp
   pub kind : x.kind ≡ octet m 0
-  pub listed : sccp_shape_of x.kind ≡ Has shape
+  pub listed : sccp_shape_of x.kind ≡ Some shape
   pub laid : LaidOut m 0 shape x.parts params
 
 -- variable parameters in pointer order right after the pointers, optional part next, nothing

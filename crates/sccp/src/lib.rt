@@ -12,10 +12,3 @@ pub struct Message {
     pub kind: u8,
     pub parts: Parts,
 }
-
-// A message, or the refusal's number with the octet that it is about.
-#[derive(Clone, Copy)]
-pub enum Reading {
-    Read(Message),
-    Refused(u8, usize),
-}

@@ -2,8 +2,8 @@
 #![tactic(auto)]
 
 ghost use Rattle.std.specs.Prelude.{◌≡◌};
+ghost use Rattle.octets.specs.Answer.{accepted};
 ghost use Rattle.sccp.specs.Read.{sccp_read_of};
-ghost use Rattle.sccp.specs.Told.{sccp_told};
 ghost use Rattle.sccp.specs.Write.{sccp_write_of, sccp_compact_of};
 ghost use Rattle.printing.specs.Sheet.{sheet, pour};
 ghost use Rattle.requests.specs.Words.{number_at, octets_at};
@@ -13,9 +13,10 @@ ghost use Rattle.sccp_lines.specs.Sccp.{three_line, type_line, sccp_line_lem};
 
 use fields::Field;
 use forms::{SCCP_READ, SCCP_SHAPE, SCCP_WRITE};
+use octets::Numbered;
 use parts::Parts;
 use requests::Request;
-use sccp::{Message, Reading};
+use sccp::Message;
 
 // Puts the parts of a message from `at` on, the third contents too, and answers the next place.
 fn put_three(message: &[u8], parts: Parts, out: &mut [u8], at: usize) -> usize
@@ -58,7 +59,7 @@ fn put_three(message: &[u8], parts: Parts, out: &mut [u8], at: usize) -> usize
 fn say_message(message: &[u8], x: Message, out: &mut [u8]) -> usize
     ensures { sheet out.new result ≡
         pour (sheet out.old 0)
-        (type_line message.now (sccp_told (Reading.Read x))) }
+        (type_line message.now (accepted x)) }
 {
     let parts = x.parts;
     let kind = sayings::put_shown(b"type ", &[x.kind], out, 0);
@@ -72,8 +73,8 @@ fn say_read(message: &[u8], out: &mut [u8]) -> usize
         (type_line message.now (sccp_read_of message.now)) }
 {
     match sccp_codec::read(message) {
-        Reading::Refused(n, at) => sayings::say_fault(n, at, out),
-        Reading::Read(x) => say_message(message, x, out),
+        Err(why) => sayings::say_fault(why.number(), why.place(), out),
+        Ok(x) => say_message(message, x, out),
     }
 }
 

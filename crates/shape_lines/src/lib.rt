@@ -6,16 +6,17 @@ ghost use Rattle.isup.specs.Table.{shape_of};
 ghost use Rattle.printing.specs.Sheet.{sheet, pour};
 ghost use Rattle.read_lines.specs.Read.{shape_line};
 
-use layout::Row;
+use layout::Shape;
+use octets::{Numbered, Refusal};
 
 // Puts what a row of a family's table says at the front of `out`, and answers the next place.
-pub fn say_row(row: Row, out: &mut [u8]) -> usize
+pub fn say_row(row: Option<Shape>, out: &mut [u8]) -> usize
     ensures { sheet out.new result ≡
         pour (sheet out.old 0) (shape_line row) }
 {
     match row {
-        Row::Unknown => sayings::say_refusal(3, out),
-        Row::Has(shape) => {
+        None => sayings::say_refusal(Refusal::UnknownType(0).number(), out),
+        Some(shape) => {
             let fixed = sayings::put_count(b"fixed ", shape.fixed as usize, out, 0);
             let variable = sayings::put_count(b" variable ", shape.vars as usize, out, fixed);
             if shape.opt {

@@ -2,13 +2,15 @@
 #![tactic(auto)]
 
 ghost use Rattle.std.specs.Prelude.{◌≡◌, ◌+◌, ◌*◌, ◌≤◌, length, drop};
+ghost use Rattle.octets.specs.Told.{told};
 ghost use Rattle.std.proofs.lemmas.List.Edits.{sets};
 ghost use denote.Ref.{at_last};
 ghost use Rattle.octets.specs.Filled.{leaving};
 ghost use Rattle.number.specs.Contents.{bit8, filler_in, count_in, signals_in};
-ghost use Rattle.number.specs.Read.{read_answer, read_number_of};
+ghost use Rattle.number.specs.Read.{read_number_of};
 
-use number::{MOST_SIGNALS, Number, NumberRead};
+use number::{MOST_SIGNALS, Number};
+use octets::Refusal;
 
 // Bit 8 of an octet.
 fn bit_8(octet: u8) -> u8
@@ -84,28 +86,28 @@ fn read_signals(contents: &&[u8], signals: &mut [u8], count: usize)
 // octet, and the rest of it is kept.
 // Refused with 14 for contents that break their rule, else with 13 for too short a buffer; a
 // refusal keeps all of `signals`.
-pub fn read_number(contents: &[u8], signals: &mut [u8]) -> NumberRead
-    ensures { leaving (read_answer result) signals.new ≡
+pub fn read_number(contents: &[u8], signals: &mut [u8]) -> Result<Number, Refusal>
+    ensures { leaving (told result) signals.new ≡
         read_number_of contents.now signals.old }
 {
     if contents.len() < 2 {
-        return NumberRead::Refused(14);
+        return Err(Refusal::BadContents);
     }
     let odd = bit_8(contents[0]) as usize;
     let halves = 2 * (contents.len() - 2);
     if halves < odd {
-        return NumberRead::Refused(14);
+        return Err(Refusal::BadContents);
     } else if filler(contents) > 0 {
-        return NumberRead::Refused(14);
+        return Err(Refusal::BadContents);
     }
     let count = halves - odd;
     if count > MOST_SIGNALS {
-        return NumberRead::Refused(14);
+        return Err(Refusal::BadContents);
     } else if signals.len() < count {
-        return NumberRead::Refused(13);
+        return Err(Refusal::NoRoom);
     }
     read_signals(&contents, signals, count);
-    NumberRead::Read(Number {
+    Ok(Number {
         nature: contents[0] % 128,
         plan: contents[1] / 16 % 8,
         internal: bit_8(contents[1]),

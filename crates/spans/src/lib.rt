@@ -23,10 +23,8 @@ fn spread_over(table: &mut [u8], first: usize, last: usize, octet: u8)
     ensures { table.new ≡ spread table.old first last octet }
 {
     let end = end_of(table.len(), last);
-    let mut place = first;
-    while place < end {
-        table[place] = octet;
-        place += 1;
+    if first < end {
+        table[first..end].fill(octet);
     }
 }
 

@@ -1,3 +1,2 @@
 pub mod Speeds
-pub mod Spoken
 pub mod Refused

@@ -96,11 +96,9 @@ values-determined g v w k l p q = let e = p ∙ sym q in (ap (λ (x : Valued). x
 -- each way in which it ends
 module _ (b s : ℕ) (values : List Float) where
   pub read-no-bearing : 359 < b → valued 1703936 values ≡ values_gives b s values
-  unfolding values_gives course_at
   read-no-bearing h = rw (lt-ltb _ _ h) refl
 
   pub read-no-speed : 65535 < s → valued 1703936 values ≡ values_gives b s values
-  unfolding values_gives course_at
   read-no-speed h = go (ltb 359 b)
     where
       go : (t : Bool) → valued 1703936 values ≡ values_by values (when t then refused 26 0 else when ltb 65535 s then refused 26 0 else accepted (course_of_lem b s))
@@ -109,7 +107,6 @@ module _ (b s : ℕ) (values : List Float) where
 
 -- 26 exactly for a bearing above 359 and a speed above 65535
 pub values-refused : (b s : ℕ) (values : List Float) → ((values_gives b s values).value ≡ 65536 * 26) ↔ ((359 < b) ⊎ (65535 < s))
-unfolding values_gives course_at
 values-refused b s values = (λ e. go (ltb 359 b) (ltb 65535 s) refl refl e, back)
   where
     back : (359 < b) ⊎ (65535 < s) → (values_gives b s values).value ≡ 65536 * 26
@@ -127,7 +124,6 @@ values-refused b s values = (λ e. go (ltb 359 b) (ltb 65535 s) refl refl e, bac
 
 -- a number from 65536 on says that the call was refused, and then the lent values are as they were
 pub values-refuses : (b s : ℕ) (values : List Float) (r : ℕ) (left : List Float) → valued r left ≡ values_gives b s values → 65536 ≤ r → left ≡ values
-unfolding values_gives
 values-refuses b s values r left e h = ap (λ (x : Valued). x.left) e ∙ go (course_at b s) (omega (arith, ap (λ (x : Valued). x.value) e))
   where
     room : (c : Course) (t : Bool) → 65536 ≤ (when t then valued (65536 * 13) values else valued 2 (c.bearing ∷ c.speed ∷ drop 2 values)).value → (when t then valued (65536 * 13) values else valued 2 (c.bearing ∷ c.speed ∷ drop 2 values)).left ≡ values

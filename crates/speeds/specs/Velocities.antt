@@ -45,7 +45,7 @@ abbrev pub valued : ℕ → List Float → Valued
 valued value left = record { value = value; left = left }
 
 -- what two numbers stand for as codes: 26 for a bearing above 359, and for a speed that no code is
-unfoldable pub course_at : ℕ → ℕ → Answer Course
+abbrev pub course_at : ℕ → ℕ → Answer Course
 course_at b s =
     when ltb 359 b then refused 26 0 else when ltb 65535 s then refused 26 0
     else accepted (course_of_lem b s)
@@ -59,5 +59,5 @@ values_by values (accepted c) =
 values_by values (refused n at) = valued (65536 * n) values
 
 -- reading back
-unfoldable pub values_gives : ℕ → ℕ → List Float → Valued
+abbrev pub values_gives : ℕ → ℕ → List Float → Valued
 values_gives b s values = values_by values (course_at b s)

@@ -8,13 +8,8 @@ ghost use Rattle.velocity.specs.declared.Velocity.TheVariants.{Horizontal, WithV
 ghost use Rattle.boundary.specs.Boundary.{given, given_by};
 ghost use Rattle.speeds.specs.Velocities.{gives_codes, code_gives, valued, values_gives};
 
-use velocity::{Coded, Codes, Known, Mark, Velocity};
-
-// Refused with 26, as an answer.
-const NOT_CODED: u32 = 1703936;
-
-// Refused with 13.
-const NO_ROOM: u32 = 851968;
+use octets::Refusal;
+use velocity::{Codes, Known, Mark, Velocity};
 
 // The largest code of a speed.
 const CODE_MOST: u32 = 65535;
@@ -27,7 +22,7 @@ fn give_codes(coded: Codes, codes: &mut [u16]) -> u32
     match coded {
         Codes::Horizontal(bearing, speed) => {
             if codes.len() < 2 {
-                return NO_ROOM;
+                return telling::refused(Refusal::NoRoom);
             }
             codes[0] = bearing;
             codes[1] = speed;
@@ -35,7 +30,7 @@ fn give_codes(coded: Codes, codes: &mut [u16]) -> u32
         }
         Codes::WithVertical(bearing, speed, vertical, _) => {
             if codes.len() < 3 {
-                return NO_ROOM;
+                return telling::refused(Refusal::NoRoom);
             }
             codes[0] = bearing;
             codes[1] = speed;
@@ -46,13 +41,14 @@ fn give_codes(coded: Codes, codes: &mut [u16]) -> u32
 }
 
 // Codes a velocity.
+#[tactic(auto, unfolding(crate::specs::Velocities::code_gives))]
 fn give_coded(measured: Velocity, codes: &mut [u16]) -> u32
     ensures { given result codes.new ≡
         given_by (code_gives measured codes.old) }
 {
     match coding::code(measured) {
-        Coded::As(coded) => give_codes(coded, codes),
-        Coded::Refused(_) => NOT_CODED,
+        Ok(coded) => give_codes(coded, codes),
+        Err(why) => telling::refused(why),
     }
 }
 
@@ -86,27 +82,28 @@ pub extern "C" fn llachurep_velocity_code_vertical(
 
 // What a bearing's and a speed's code stand for. Accepted: 2, and values[0..2) are the bearing and
 // the speed. Refused with 26 for a bearing above 359 or a speed above 65535, then 13.
+#[tactic(auto, unfolding(velocity::specs::Velocity::known_of))]
 #[unsafe(no_mangle)]
 pub extern "C" fn llachurep_velocity_read(bearing: u32, speed: u32, values: &mut [f64]) -> u32
     ensures { valued result values.new ≡
         values_gives bearing speed values.old }
 {
     if CODE_MOST < bearing {
-        return NOT_CODED;
+        return telling::refused(Refusal::NoVelocity);
     }
     if CODE_MOST < speed {
-        return NOT_CODED;
+        return telling::refused(Refusal::NoVelocity);
     }
     match courses::read(Codes::Horizontal(bearing as u16, speed as u16)) {
-        Known::Horizontal(course) => {
+        Ok(Known::Horizontal(course)) => {
             if values.len() < 2 {
-                return NO_ROOM;
+                return telling::refused(Refusal::NoRoom);
             }
             values[0] = course.bearing;
             values[1] = course.speed;
             2
         }
-        Known::WithVertical(_, _, _) => NOT_CODED,
-        Known::Refused(_) => NOT_CODED,
+        Ok(Known::WithVertical(_, _, _)) => telling::refused(Refusal::NoVelocity),
+        Err(why) => telling::refused(why),
     }
 }

@@ -5,18 +5,15 @@ ghost use Rattle.std.specs.Prelude.{◌≡◌};
 ghost use Rattle.family.specs.Steps.{offer_at_lem, place_after_lem};
 
 use cursor::Cursor;
-use family::Offer;
-use runs::Step;
+use runs::{Field, Step};
 
 // What a step gives at octet `at` of a message.
-fn offer_at(message: &[u8], at: usize) -> Offer
+fn offer_at(message: &[u8], at: usize) -> Option<Field>
     ensures { result ≡ offer_at_lem message.now at }
 {
     match runs::step_at(message, at) {
-        Step::Param(f) => Offer::Param(f),
-        Step::Close => Offer::Done,
-        Step::End => Offer::Done,
-        Step::Pass => Offer::Done,
+        Step::Param(f) => Some(f),
+        Step::Close | Step::End | Step::Pass => None,
     }
 }
 
@@ -26,9 +23,7 @@ fn place_after(message: &[u8], at: usize) -> usize
 {
     match runs::step_at(message, at) {
         Step::Param(f) => f.at + f.len,
-        Step::Close => at,
-        Step::End => at,
-        Step::Pass => at,
+        Step::Close | Step::End | Step::Pass => at,
     }
 }
 
@@ -40,7 +35,7 @@ pub fn resume<'a>(message: &'a [u8], at: usize) -> Cursor<'a>
 }
 
 // The parameter at the cursor's place, or that it is done.
-pub fn step<'a>(c: Cursor<'a>) -> Offer
+pub fn step<'a>(c: Cursor<'a>) -> Option<Field>
     ensures { result ≡ offer_at_lem c.entry.message.now c.entry.at }
 {
     offer_at(c.message, c.at)
@@ -54,7 +49,7 @@ pub fn past<'a>(c: Cursor<'a>) -> Cursor<'a>
 }
 
 // What a step gives, for whoever holds no cursor.
-pub fn step_of(message: &[u8], place: usize) -> Offer
+pub fn step_of(message: &[u8], place: usize) -> Option<Field>
     ensures { result ≡ offer_at_lem message.now place }
 {
     step(resume(message, place))

@@ -7,7 +7,7 @@ ghost use Rattle.plans.specs.Plans.{ticked};
 ghost use Rattle.plans.specs.Turns.{may_block_lem};
 ghost use Rattle.surveys.specs.Surveys.{will_do_lem, survey_of};
 
-use surveys::Survey;
+use octets::Refusal;
 
 // Whether a circuit before this one is stuck, or this one is.
 fn stuck_with(
@@ -20,7 +20,8 @@ fn stuck_with(
     c: usize,
 ) -> bool
     ensures { result ≡
-        (when will_do_lem kind (may_block_lem kind owners.now helpers.now sender) (ticked ticks.now) c then stuck else true) }
+        (when will_do_lem kind (may_block_lem kind owners.now helpers.now sender)
+        (ticked ticks.now) c then stuck else true) }
 {
     if prospects::will_do(owners, helpers, ticks, sender, kind, c) {
         return stuck;
@@ -38,7 +39,7 @@ pub fn survey(
     ticks: &[u8],
     sender: u32,
     kind: u32,
-) -> Survey
+) -> Result<usize, Refusal>
     ensures { result ≡
         survey_of states.now kind
         (may_block_lem kind owners.now helpers.now sender)
@@ -46,21 +47,17 @@ pub fn survey(
 {
     let mut stuck = false;
     let mut n = 0;
-    let mut c = 0;
-    while c < 4096 {
+    for c in 0..4096 {
         if !changes::legal(changes::octet_at(states, c)) {
-            return Survey::Illegal;
+            return Err(Refusal::IllegalRow);
         }
-        if changes::octet_at(ticks, c) == 0 {
-            c += 1;
-            continue;
+        if changes::octet_at(ticks, c) != 0 {
+            stuck = stuck_with(stuck, owners, helpers, ticks, sender, kind, c);
+            n += 1;
         }
-        stuck = stuck_with(stuck, owners, helpers, ticks, sender, kind, c);
-        n += 1;
-        c += 1;
     }
     if stuck {
-        return Survey::Stuck;
+        return Err(Refusal::NoPlan);
     }
-    Survey::Ticked(n)
+    Ok(n)
 }

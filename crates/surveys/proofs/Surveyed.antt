@@ -3,15 +3,16 @@ use Prim.Native.Nat.{ℕ}
 use mathlib.Core.Path.{◌≡◌}
 use mathlib.Core.Bool.{Bool}
 use mathlib.Core.List.{List}
+use Rattle.std.specs.Prelude.{Result}
 use Rattle.octets.proofs.Answer.{one_answer}
+use Rattle.octets.specs.declared.Refusal.{Refusal}
 use Rattle.plans.specs.Plans.{ticked}
 use Rattle.plans.specs.Turns.{may_block_lem}
-use Rattle.surveys.specs.declared.Survey.{Survey}
 use Rattle.surveys.specs.Surveys.{next_will_do_lem, will_do_lem, survey_of}
 
 module _ (owners helpers : List ℕ) (sender kind : ℕ) where
   -- of `survey`
-  pub survey-determined : (states ticks : List ℕ) (r s : Survey) → r ≡ survey_of states kind (may_block_lem kind owners helpers sender) (ticked ticks) → s ≡ survey_of states kind (may_block_lem kind owners helpers sender) (ticked ticks) → r ≡ s
+  pub survey-determined : (states ticks : List ℕ) (r s : Result ℕ Refusal) → r ≡ survey_of states kind (may_block_lem kind owners helpers sender) (ticked ticks) → s ≡ survey_of states kind (may_block_lem kind owners helpers sender) (ticked ticks) → r ≡ s
   survey-determined states ticks r s = one_answer
 
   -- of `will_do`

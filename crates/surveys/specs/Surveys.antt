@@ -1,11 +1,11 @@
 -- What is looked for before a plan is laid: a row that is not legal, a ticked circuit that can have
 -- no plan, and how many are ticked.
-use Rattle.std.specs.Prelude.{ℕ, zero, suc, ◌+◌, ◌-◌, Bool, true, false, List, ltb, eqb}
+use Rattle.std.specs.Prelude.{ℕ, zero, suc, ◌+◌, ◌-◌, Bool, true, false, List, Result, Ok, Err, ltb, eqb, is_some}
+use Rattle.octets.specs.declared.Refusal.{Refusal}
+use Rattle.octets.specs.declared.Refusal.TheVariants.{IllegalRow, NoPlan}
 use Rattle.octets.specs.Choice.{when◌then◌else◌}
 use Rattle.layout.specs.Container.{bit}
-use Rattle.rights.specs.Rights.{first_not, first_illegal_lem, is_found}
-use Rattle.surveys.specs.declared.Survey.{Survey}
-use Rattle.surveys.specs.declared.Survey.TheVariants.{Illegal, Stuck, Ticked}
+use Rattle.rights.specs.Rights.{first_not, first_illegal_lem}
 
 -- how many of the n circuits from c on are ticked
 unfoldable pub tick_count : (ℕ → Bool) → ℕ → ℕ → ℕ
@@ -30,11 +30,11 @@ will_do_lem kind can tick c = when tick c then can_plan kind can c else true
 
 -- a ticked circuit that no plan can mark: 25
 unfoldable pub is_stuck : ℕ → (ℕ → Bool) → (ℕ → Bool) → Bool
-is_stuck kind can tick = is_found (first_not (will_do_lem kind can tick) 0 4096)
+is_stuck kind can tick = is_some (first_not (will_do_lem kind can tick) 0 4096)
 
 -- all of it, in the order of the refusals: 20 for a row that is not legal, then
 -- 25, then how many circuits are ticked
-unfoldable pub survey_of : List ℕ → ℕ → (ℕ → Bool) → (ℕ → Bool) → Survey
+unfoldable pub survey_of : List ℕ → ℕ → (ℕ → Bool) → (ℕ → Bool) → Result ℕ Refusal
 survey_of states kind can tick =
-    when is_found (first_illegal_lem states 0 4096) then Illegal
-    else (when is_stuck kind can tick then Stuck else Ticked (tick_count tick 0 4096))
+    when is_some (first_illegal_lem states 0 4096) then Err IllegalRow
+    else (when is_stuck kind can tick then Err NoPlan else Ok (tick_count tick 0 4096))

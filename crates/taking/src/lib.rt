@@ -8,7 +8,6 @@ ghost use Rattle.requests.specs.Along.{bad, fields_of, taken, taken_by, request_
 
 use forms::{BAD, Row};
 use requests::Request;
-use words::Number;
 
 // The octets of a line, at the most.
 const LINE_MOST: usize = 81920;
@@ -37,8 +36,7 @@ fn fields_in(row: Row, line: &[u8], end: usize, scratch: &mut [u8]) -> Request
     let mut at = end;
     let mut before = 0;
     let mut next = 0;
-    let mut i = 0;
-    while i < FIELDS_MOST {
+    for slot in &mut fields {
         if letters == 0 {
             if at == line.len() {
                 return Request { which, fields };
@@ -52,17 +50,16 @@ fn fields_in(row: Row, line: &[u8], end: usize, scratch: &mut [u8]) -> Request
         let to = digits::word_end(line, from);
         let letter = (letters % 256) as u8;
         match typing::value_of(letter, before, &line[from..to], scratch, next) {
-            Number::Is(value) => {
+            Some(value) => {
                 let field = placing::field_of(letter, value, next);
-                fields[i] = field;
+                *slot = field;
                 before = field.value;
                 next = next + field.count as usize;
             }
-            Number::Not => return none(),
+            None => return none(),
         }
         letters = letters / 256;
         at = to;
-        i += 1;
     }
     if at == line.len() {
         return Request { which, fields };

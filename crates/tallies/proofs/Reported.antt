@@ -1,5 +1,5 @@
 -- What the functions of the report come to, for their proofs.
-use Prim.Native.Nat.{ℕ, suc, ◌+◌}
+use Prim.Native.Nat.{ℕ, zero, suc, ◌+◌, ◌%◌, ◌≤◌}
 use mathlib.Core.Path.{◌≡◌, refl, sym, ◌∙◌, ap}
 use mathlib.Core.Bool.{Bool, true, false}
 use mathlib.Core.List.{List, [], ◌∷◌, ◌++◌}
@@ -7,6 +7,10 @@ use native.Mathlib.Omega.{arith}
 use native.Mathlib.Nat.{add-zero, zero-add}
 use borrow.Author.Tests.{eq-eqb, ne_eqb}
 use lib.Dec.{eqb}
+use lib.ListN.{length, drop, drop_of_length-le}
+use lib.Seq.{drop-cons}
+use Rattle.std.specs.List.{zip, sum_by}
+use Rattle.std.proofs.lemmas.List.Sums.{sum_by-cons}
 use Rattle.octets.specs.Octet.{octet}
 use Rattle.octets.specs.Choice.{when◌then◌else◌}
 use Rattle.words.specs.Said.{said}
@@ -15,7 +19,7 @@ use Rattle.printing.proofs.Pours.{pour-append, pour-one}
 use Rattle.tallies.specs.declared.Tally.{Tally}
 use Rattle.book.specs.declared.Place.{Place}
 use Rattle.book.specs.Awaits.{is_done}
-use Rattle.day.specs.Hub.{Rows, busy_at_lem}
+use Rattle.day.specs.Hub.{Rows}
 use Rattle.day.specs.Day.{Day, day_sized}
 use Rattle.tallies.specs.Lines.{tally, added, four_numbers, sender_line, line_of, shown_of, lines_from, sums_from, all_line, lines_for}
 use Rattle.tallies.specs.Reports.{busy_of_lem, tally_in_lem, text_of, no_book, report_of}
@@ -32,13 +36,26 @@ pub then-put : (s : Sheet) {u v : Sheet} (a : List ℕ) (c : ℕ) → u ≡ pour
 then-put s {u} a c p q = and_then s a (c ∷ []) p (q ∙ pour-one u c)
 
 -- ---- busy circuits
-pub busy-more : (owners : List ℕ) (rows : Rows) (q c n d m : ℕ) {b : ℕ} → n ≡ suc m → d ≡ suc c → b ≡ (when eqb (octet owners c) q then busy_at_lem rows c else 0) → b + busy_of_lem owners rows q d m ≡ busy_of_lem owners rows q c n
-unfolding busy_of_lem
-busy-more owners rows q c n d m e f p = rw (e, f, p)
+-- those of an owner and a row
+abbrev pub busy-pair : ℕ → ℕ × ℕ → ℕ
+busy-pair q p = when eqb p.0 q then p.1 % 2 else 0
 
-pub busy-done : (owners : List ℕ) (rows : Rows) (q c n : ℕ) → n ≡ 0 → busy_of_lem owners rows q c n ≡ 0
+pub busy-summed : (owners : List ℕ) (rows : Rows) (q c n : ℕ) → c + n ≡ length owners → c + n ≡ length rows → sum_by (busy-pair q) (zip (drop c owners) (drop c rows)) ≡ busy_of_lem owners rows q c n
 unfolding busy_of_lem
-busy-done owners rows q c n e = rw e
+busy-summed owners rows q c zero h k = ap (λ (l : List ℕ). sum_by (busy-pair q) (zip l (drop c rows))) (drop_of_length-le owners (omega (arith, h)))
+busy-summed owners rows q c (suc n) h k =
+    (λ i. sum_by (busy-pair q) (zip (drop-cons owners c 0 (omega (arith, h)) i) (drop-cons rows c 0 (omega (arith, k)) i)))
+    ∙ sum_by-cons (busy-pair q) (octet owners c, octet rows c) (zip (drop (suc c) owners) (drop (suc c) rows))
+    ∙ ap (λ (m : ℕ). busy-pair q (octet owners c, octet rows c) + m) (busy-summed owners rows q (suc c) n (omega (arith, h)) (omega (arith, k)))
+
+pub busy-most : (owners : List ℕ) (rows : Rows) (q c n : ℕ) → busy_of_lem owners rows q c n ≤ n
+unfolding busy_of_lem
+busy-most owners rows q c zero = omega arith
+busy-most owners rows q c (suc n) = go (eqb (octet owners c) q) (busy-most owners rows q (suc c) n)
+  where
+    go : (b : Bool) {m : ℕ} → m ≤ n → (when b then octet rows c % 2 else 0) + m ≤ suc n
+    go true e = omega (arith, e)
+    go false e = omega (arith, e)
 
 -- ---- a sender's line
 pub line-none : (s : Sheet) (q : ℕ) (t : Tally) → t.messages ≡ 0 → s ≡ pour s (line_of q t)

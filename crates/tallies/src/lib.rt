@@ -11,6 +11,7 @@ ghost use Rattle.octets.specs.Octet.{octet};
 ghost use Rattle.octets.specs.Choice.{when◌then◌else◌};
 
 use book::{Await, Place};
+use octets::{Numbered, Refusal};
 
 // A sender's four numbers: messages, accepted, refused, circuits busy at the end.
 #[derive(Clone, Copy)]
@@ -37,13 +38,11 @@ fn busy_of(owners: &[u8], states: &[u8], sender: u8) -> usize
     ensures { (result ≡ busy_of_lem owners.now states.now sender 0 4096)
         × (result ≤ 4096) }
 {
-    let mut busy: usize = 0;
-    let mut circuit = 0;
-    while circuit < 4096 {
-        busy += busy_at(owners[circuit], states[circuit], sender);
-        circuit += 1;
-    }
-    busy
+    owners
+        .iter()
+        .zip(states)
+        .map(|(&owner, &state)| busy_at(owner, state, sender))
+        .sum()
 }
 
 // The value of a counter.
@@ -141,13 +140,11 @@ fn put_lines(
         busy: 0,
     };
     let mut next = 0;
-    let mut sender: usize = 0;
-    while sender < 256 {
+    for sender in 0..256 {
         let q = sender as u8;
         let t = tally_in(q, owners, states, accepted, refused);
         next = put_sender(q, t, out, next);
         sums = add(sums, t, sender);
-        sender += 1;
     }
     let all = printing::put_text(b"all", out, next);
     put_numbers(sums, out, all)
@@ -157,22 +154,14 @@ fn put_lines(
 fn done(awaits: Await) -> bool
     ensures { result ≡ is_done awaits }
 {
-    match awaits {
-        Await::SpanCount => false,
-        Await::Span(_, _) => false,
-        Await::MessageCount => false,
-        Await::Head(_) => false,
-        Await::Body(_, _, _) => false,
-        Await::Done => true,
-        Await::Bad => false,
-    }
+    matches!(awaits, Await::Done)
 }
 
 // Puts `refused 24`, and LF.
 fn put_refusal(out: &mut [u8]) -> usize
     ensures { sheet out.new result ≡ pour (sheet out.old 0) no_book }
 {
-    let next = sayings::say_refusal(24, out);
+    let next = sayings::say_refusal(Refusal::NoBook.number(), out);
     printing::put_octet(b'\n', out, next)
 }
 

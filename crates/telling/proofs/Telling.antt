@@ -1,10 +1,10 @@
--- An answer that goes into 16 bits is told whole, and what the two functions answer is determined.
+-- An answer that goes into 16 bits is told whole, and what the three functions answer is determined.
+use Rattle.std.specs.Prelude.{Result}
+use Rattle.octets.specs.Told.{told_by}
 use Prim.Native.Nat.{ℕ, ◌+◌, ◌*◌, ◌/◌, ◌%◌, ◌≤◌}
 use mathlib.Core.Path.{◌≡◌, refl}
 use native.Mathlib.Omega.{arith}
 use Rattle.octets.specs.Answer.{Answer, accepted, refused}
-use Rattle.octets.specs.Told.{written_told}
-use Rattle.octets.specs.declared.Written.{Written}
 use Rattle.octets.proofs.Answer.{one_answer}
 use Rattle.telling.specs.Telling.{packed, packed_low, In16Bits}
 
@@ -29,5 +29,5 @@ accepted-halves v h = (omega arith, omega arith)
 pub refusal-told-determined : (number place v w : ℕ) → v ≡ 65536 * number + place % 65536 → w ≡ 65536 * number + place % 65536 → v ≡ w
 refusal-told-determined number place v w = one_answer
 
-pub written-told-determined : (answer : Written) (v w : ℕ) → v ≡ packed_low (written_told answer) → w ≡ packed_low (written_told answer) → v ≡ w
-written-told-determined answer v w = one_answer
+pub written-told-determined : {E : Type 0} (number place : E → ℕ) (answer : Result ℕ E) (v w : ℕ) → v ≡ packed_low (told_by number place answer) → w ≡ packed_low (told_by number place answer) → v ≡ w
+written-told-determined number place answer v w = one_answer

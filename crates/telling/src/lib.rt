@@ -4,10 +4,10 @@
 #![tactic(auto)]
 
 ghost use Rattle.std.specs.Prelude.{◌≡◌, ◌+◌, ◌*◌, ◌%◌};
-ghost use Rattle.octets.specs.Told.{written_told};
+ghost use Rattle.octets.specs.Told.{told_by};
 ghost use Rattle.telling.specs.Telling.{packed_low};
 
-use octets::Written;
+use octets::Numbered;
 
 // A refusal's number and the octet that it is about, as an answer.
 pub fn refusal(number: u8, place: usize) -> u32
@@ -16,12 +16,19 @@ pub fn refusal(number: u8, place: usize) -> u32
     65536 * number as u32 + (place % 65536) as u32
 }
 
+// A refusal as an answer.
+pub fn refused<R: Numbered>(why: R) -> u32
+    ensures { result ≡ 65536 * R.number_in why + R.place_in why % 65536 }
+{
+    refusal(why.number(), why.place())
+}
+
 // What all that fill a lent buffer answer, as one number.
-pub fn written(answer: Written) -> u32
-    ensures { result ≡ packed_low (written_told answer) }
+pub fn written<R: Numbered>(answer: Result<usize, R>) -> u32
+    ensures { result ≡ packed_low (told_by R.number_in R.place_in answer) }
 {
     match answer {
-        Written::Octets(n) => (n % 65536) as u32,
-        Written::Refused(n, at) => refusal(n, at),
+        Ok(n) => (n % 65536) as u32,
+        Err(why) => refused(why),
     }
 }

@@ -7,7 +7,7 @@ use lib.ListN.{length, get_or-eq_default}
 use Rattle.octets.specs.Octet.{octet}
 use Rattle.octets.specs.Sum.{total}
 use Rattle.octets.proofs.Counting.{total-most}
-use Rattle.octets.proofs.Sum.{total-last, total-none}
+use Rattle.octets.proofs.Sum.{total-none}
 use Rattle.rows.specs.Rows.{busy}
 use Rattle.totals.specs.Blocks.{busy_in, block_count_lem}
 
@@ -15,10 +15,6 @@ use Rattle.totals.specs.Blocks.{busy_in, block_count_lem}
 pub total-start : (f : ℕ → ℕ) (e : ℕ) → 0 ≡ total f e 0
 unfolding total
 total-start f e = refl
-
--- one number more
-pub total-next : (f : ℕ → ℕ) (e n v w : ℕ) → v ≡ total f e n → w ≡ f (e + n) → v + w ≡ total f e (n + 1)
-total-next f e n v w p q = omega (arith, total-last f e n, p, q)
 
 -- no more busy rows than rows
 pub busy-most : (rows : List ℕ) (c n : ℕ) → busy_in rows c n ≤ n

@@ -1,4 +1,3 @@
 pub mod Blocks
 pub mod Question
 pub mod Looked
-pub mod Told

@@ -8,10 +8,3 @@ pub struct Count {
     pub count: usize,
     pub looked: usize,
 }
-
-// What a question answers: the count, or the number of the refusal.
-#[derive(Clone, Copy)]
-pub enum Asked {
-    Busy(Count),
-    Refused(u8),
-}

@@ -1,4 +1,6 @@
 -- No answer's line is long, family by family.
+use Rattle.std.specs.Prelude.{Option, Some, None}
+use Rattle.layout.specs.declared.Shape.{Shape}
 use Prim.Native.Nat.{ℕ, zero, suc, ◌+◌, ◌*◌, ◌-◌, ◌/◌, ◌%◌, ◌≤◌, ◌<◌}
 use Prim.Native.String.{String}
 use mathlib.Core.Path.{◌≡◌, refl, sym, ap}
@@ -13,8 +15,6 @@ use Rattle.octets.specs.Octet.{octets}
 use Rattle.octets.specs.Choice.{when◌then◌else◌}
 use Rattle.octets.specs.Answer.{Answer, accepted, refused, ◌then◌}
 use Rattle.octets.specs.Filled.{done, leaving, room_for}
-use Rattle.layout.specs.declared.Row.{Row}
-use Rattle.layout.specs.declared.Row.TheVariants.{Has, Unknown}
 use Rattle.parts.specs.declared.Span.{Span}
 use Rattle.parts.specs.declared.Parts.{Parts}
 use Rattle.parts.specs.Spans.{part_of}
@@ -32,8 +32,6 @@ use Rattle.sccp.specs.declared.Message.{Message as SccpMessage}
 use Rattle.sccp.specs.Table.{sccp, sccp_shape_of}
 use Rattle.sccp.specs.Read.{sccp_read_of}
 use Rattle.sccp.specs.Write.{sccp_write_in, sccp_write_of, sccp_compact_in, sccp_compact_of}
-use Rattle.family.specs.declared.Offer.{Offer}
-use Rattle.family.specs.declared.Offer.TheVariants.{Param as One, Done}
 use Rattle.family.specs.Family.{Family, read_in}
 use Rattle.family.specs.Steps.{offer_at_lem, place_after_lem, steps_from, start_in}
 use Rattle.family.proofs.Steps.{done-stays}
@@ -42,8 +40,6 @@ use Rattle.isup.specs.Table.{isup}
 use Rattle.bicc.specs.Table.{bicc}
 use Rattle.number.specs.Read.{number_in, read_number_of}
 use Rattle.dialling.specs.Write.{number_octets, write_number_of}
-use Rattle.decimals.specs.declared.Real.{Real}
-use Rattle.decimals.specs.declared.Real.TheVariants.{Is as Value, Not as NoValue}
 use Rattle.decimals.specs.Decimals.{real_of_lem}
 use Rattle.velocity.specs.declared.Mark.{Mark}
 use Rattle.velocity.specs.declared.Mark.TheVariants.{Upward, Downward}
@@ -76,8 +72,6 @@ use Rattle.sccp_lines.specs.Sccp.{three_line, type_line, sccp_line_lem}
 use Rattle.list_lines.specs.Lists.{offer_text, steps_text, list_from, list_by, list_in, list_line_lem}
 use Rattle.list_lines.proofs.Stepping.{offered}
 use Rattle.number_lines.specs.Numbers.{signals_line, number_line, numbers_line_lem}
-use Rattle.velocity_lines.specs.declared.Marked.{Marked}
-use Rattle.velocity_lines.specs.declared.Marked.TheVariants.{Is, Not}
 use Rattle.velocity_lines.specs.Velocities.{typed_mark, mark_word, codes_line, coded_line, whole_in, course_line, known_line, by_value, by_mark, velocity_line, velocity_long_line, back_line, back_long_line, code_at, velocities_line_lem}
 use Rattle.octets.specs.Applied.{spread}
 use Rattle.block_lines.specs.Blocks.{notice_line, block_done}
@@ -141,15 +135,15 @@ front_length : (m : List ℕ) (n most : ℕ) → length m ≤ most → length (t
 front_length m n most h = omega (arith, length-take n m)
 
 -- ---- the lines, by how long they can get
-shape-fits : (r : Row) → length (shape_line r) ≤ 100
+shape-fits : (r : Option Shape) → length (shape_line r) ≤ 100
 unfolding shape_line
-shape-fits (Has s) =
+shape-fits (Some s) =
     omega (arith, length-append (counted "fixed " s.fixed ++ counted " variable " s.vars) (optional_word s.opt), length-append (counted "fixed " s.fixed) (counted " variable " s.vars), counted-length "fixed " s.fixed, counted-length " variable " s.vars, go s.opt)
   where
     go : (t : Bool) → length (optional_word t) ≤ 13
     go true = omega arith
     go false = omega arith
-shape-fits Unknown = omega (arith, counted-length "refused " 3)
+shape-fits None = omega (arith, counted-length "refused " 3)
 
 module _ (most : ℕ) (m : List ℕ) (h : length m ≤ most) where
   part-fits : (w : String) (s : Span) → length (shown w (part_of m s)) ≤ length (said w) + 2 * most + 1
@@ -238,7 +232,7 @@ module _ (most : ℕ) (m : List ℕ) (h : length m ≤ most) where
   found-fits d k (refused n at) = omega (arith, fault-length n at)
 
 -- the steps from octet i on show three characters an octet at the most
-field-length : (m : List ℕ) (f : Field) → length (offer_text m (One f)) ≤ 5 + 2 * f.len
+field-length : (m : List ℕ) (f : Field) → length (offer_text m (Some f)) ≤ 5 + 2 * f.len
 field-length m f =
     let a = shown " " (f.name ∷ []) in
     let b = shown " " (octets m f.at f.len) in
@@ -249,9 +243,9 @@ unfolding steps_from steps_text
 steps-length zero m i = omega arith
 steps-length (suc n) m i = go (steps-length n m (place_after_lem m i)) (offer_at_lem m i) refl
   where
-    go : length (steps_text m (steps_from n m (place_after_lem m i))) ≤ 3 * (length m - place_after_lem m i) → (g : Offer) → offer_at_lem m i ≡ g → length (offer_text m g ++ steps_text m (steps_from n m (place_after_lem m i))) ≤ 3 * (length m - i)
-    go rest (One f) e = let x = offered m i f e in omega (arith, length-append (offer_text m (One f)) (steps_text m (steps_from n m (place_after_lem m i))), field-length m f, rest, x.past, x.starts, x.inside)
-    go rest Done e = omega (arith, rest, done-stays m i e)
+    go : length (steps_text m (steps_from n m (place_after_lem m i))) ≤ 3 * (length m - place_after_lem m i) → (g : Option Field) → offer_at_lem m i ≡ g → length (offer_text m g ++ steps_text m (steps_from n m (place_after_lem m i))) ≤ 3 * (length m - i)
+    go rest (Some f) e = let x = offered m i f e in omega (arith, length-append (offer_text m (Some f)) (steps_text m (steps_from n m (place_after_lem m i))), field-length m f, rest, x.past, x.starts, x.inside)
+    go rest None e = omega (arith, rest, done-stays m i e)
 
 -- a lent buffer keeps its length
 done-length : {A : Type 0} (buffer : List ℕ) (x : Answer (A × List ℕ)) → length (done buffer (x then room_for buffer)).left ≡ length buffer
@@ -328,9 +322,9 @@ module _ (which : ℕ) (gs : List FieldSays) (h : ShortAll gs) where
           omega (arith, again-fits 1024 x.left (omega (arith, lent_length (number_at gs 1), done-length (lent (number_at gs 1)) (sccp_compact_in (octets_at gs 0)))) x.answer)
 
   -- a message's parameters
-  steps-fit : (m : List ℕ) → length m ≤ 1024 → (i : ℕ) (g : Offer) → length (list_from m i g) ≤ 40000
-  steps-fit m k i (One f) = omega (arith, length-append (said "parameters") (steps_text m (steps_from (length m) m i)), steps-length (length m) m i)
-  steps-fit m k i Done = omega arith
+  steps-fit : (m : List ℕ) → length m ≤ 1024 → (i : ℕ) (g : Option Field) → length (list_from m i g) ≤ 40000
+  steps-fit m k i (Some f) = omega (arith, length-append (said "parameters") (steps_text m (steps_from (length m) m i)), steps-length (length m) m i)
+  steps-fit m k i None = omega arith
 
   listed-fits : (F : Family) (m : List ℕ) → length m ≤ 1024 → length (list_in F m) ≤ 40000
   unfolding list_in
@@ -398,13 +392,13 @@ known-fits (accepted (alone c)) = omega (arith, course-fits c)
 known-fits (accepted (beside c u m)) = omega (arith, length-append (course_line c ++ counted " vertical " (whole_in u)) (mark_word m), length-append (course_line c) (counted " vertical " (whole_in u)), course-fits c, counted-length " vertical " (whole_in u), mark-fits m)
 known-fits (refused n at) = omega (arith, counted-length "refused " n)
 
-value-fits : (r : Real) (f : Float → List ℕ) → ((x : Float) → length (f x) ≤ 100) → length (by_value r f) ≤ 100
-value-fits (Value x) f h = h x
-value-fits NoValue f h = omega arith
+value-fits : (r : Option Float) (f : Float → List ℕ) → ((x : Float) → length (f x) ≤ 100) → length (by_value r f) ≤ 100
+value-fits (Some x) f h = h x
+value-fits None f h = omega arith
 
-by-mark-fits : (r : Marked) (f : Mark → List ℕ) → ((m : Mark) → length (f m) ≤ 100) → length (by_mark r f) ≤ 100
-by-mark-fits (Is m) f h = h m
-by-mark-fits Not f h = omega arith
+by-mark-fits : (r : Option Mark) (f : Mark → List ℕ) → ((m : Mark) → length (f m) ≤ 100) → length (by_mark r f) ≤ 100
+by-mark-fits (Some m) f h = h m
+by-mark-fits None f h = omega arith
 
 velocity-fits : (b s : List ℕ) → length (velocity_line b s) ≤ 100
 unfolding velocity_line

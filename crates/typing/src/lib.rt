@@ -8,8 +8,6 @@ ghost use Rattle.fields.specs.Kinds.{not_below_lem};
 ghost use Rattle.fields.specs.Letters.{most_of, kind_of};
 ghost use Rattle.fields.specs.Placed.{word_into, entered};
 
-use words::Number;
-
 // Any number of 32 bits.
 const ANY_MOST: u32 = 4294967295;
 
@@ -63,46 +61,48 @@ fn most(letter: u8) -> u32
 }
 
 // A number that is not below another.
-fn not_below(least: u32, number: Number) -> Number
+fn not_below(least: u32, number: Option<u32>) -> Option<u32>
     ensures { result ≡ not_below_lem least number }
 {
     match number {
-        Number::Is(value) => {
+        Some(value) => {
             if value < least {
-                return Number::Not;
+                return None;
             }
-            Number::Is(value)
+            Some(value)
         }
-        Number::Not => Number::Not,
+        None => None,
     }
 }
 
 // Puts a word into the scratch as it is typed, and answers how many octets it has. It has more than
 // 18, or the scratch has no room: nothing is put.
-fn keep_word(word: &[u8], scratch: &mut [u8], next: usize) -> Number
+fn keep_word(word: &[u8], scratch: &mut [u8], next: usize) -> Option<u32>
     ensures { entry result scratch.new ≡
         word_into word.now scratch.old next }
 {
     if TYPED_MOST < word.len() {
-        return Number::Not;
+        return None;
     }
     if scratch.len() < next {
-        return Number::Not;
+        return None;
     }
     if scratch.len() - next < word.len() {
-        return Number::Not;
+        return None;
     }
-    let mut i = 0;
-    while i < word.len() {
-        scratch[next + i] = word[i];
-        i += 1;
-    }
-    Number::Is(word.len() as u32)
+    scratch[next..next + word.len()].copy_from_slice(word);
+    Some(word.len() as u32)
 }
 
 // The number that a word stands for as a field of a kind, after a field that stands for `before`;
 // or how many octets, which are put into the scratch.
-pub fn value_of(letter: u8, before: u32, word: &[u8], scratch: &mut [u8], next: usize) -> Number
+pub fn value_of(
+    letter: u8,
+    before: u32,
+    word: &[u8],
+    scratch: &mut [u8],
+    next: usize,
+) -> Option<u32>
     ensures { entry result scratch.new ≡
         entered (kind_of letter) before word.now scratch.old next }
 {

@@ -1,4 +1,9 @@
 -- Reading back, and coding what is read.
+use Rattle.std.specs.Prelude.{Result, Ok, Err}
+use Rattle.octets.specs.Told.{told}
+use Rattle.octets.proofs.Told.{told-injective, refusal-one}
+use Rattle.octets.specs.declared.Refusal.{Refusal}
+use Rattle.octets.specs.declared.Refusal.{Refusal}
 use mathlib.Core.Path.{◌≡◌, refl, sym, ap, ◌∙◌, subst}
 use mathlib.Core.Bool.{true, false}
 use mathlib.Core.Logic.{inl, inr, ◌↔◌}
@@ -13,18 +18,16 @@ use lib.Ieee.Exact.{HasValue}
 use lib.Ieee.Back.{round_whole}
 use lib.Ieee.Fits.{down_pos}
 use Rattle.octets.specs.Answer.{accepted, refused}
-use Rattle.octets.proofs.Answer.{accepted-same, refused-accepted, past-test}
+use Rattle.octets.proofs.Answer.{accepted-same, refused-same, refused-accepted, past-test}
 use Rattle.velocity.specs.declared.Mark.{Mark}
 use Rattle.velocity.specs.declared.Velocity.{Velocity}
 use Rattle.velocity.specs.declared.Velocity.TheVariants.{Horizontal as Along, WithVertical as AlongAndUp}
 use Rattle.velocity.specs.declared.Codes.{Codes}
 use Rattle.velocity.specs.declared.Codes.TheVariants.{Horizontal, WithVertical}
-use Rattle.velocity.specs.declared.Coded.{Coded}
-use Rattle.velocity.specs.declared.Coded.TheVariants.{As, Refused}
 use Rattle.velocity.specs.declared.Known.{Known}
-use Rattle.velocity.specs.declared.Known.TheVariants.{Horizontal as Read, WithVertical as ReadUp, Refused as Unread}
+use Rattle.velocity.specs.declared.Known.TheVariants.{Horizontal as Read, WithVertical as ReadUp}
 use Rattle.velocity.specs.Velocity.{exactly, measured, bearing_of, speed_of, codes_of, whole_of, course_of_lem, known_of, Stands, alone, beside}
-use Rattle.velocity.specs.Told.{coded_told, known_told}
+use Rattle.velocity.specs.Told.{known_told}
 use Rattle.velocity.specs.Rules.{Speed, BearingIs, SpeedIs, CodedAs, Itself, Held, bearing_code_lem, ReadBack, again, NearBy, Half, flatly, fully}
 use Rattle.velocity.proofs.Exactly.{bearing-exactly, speed-exactly, codes-exactly, along, along-up}
 
@@ -169,25 +172,19 @@ within-half v c k e r =
     half v c k w (read-itself c k (coded-held v c w).0 r)
 
 -- ---- the contracts allow one answer
-told-coded : (r s : Coded) → coded_told r ≡ coded_told s → r ≡ s
-told-coded (As c) (As d) e = ap As (accepted-same e)
-told-coded (As c) (Refused n) e = absurd (refused-accepted (sym e))
-told-coded (Refused n) (As c) e = absurd (refused-accepted e)
-told-coded (Refused n) (Refused m) e = cc
+told-known : (r s : Result Known Refusal) → known_told r ≡ known_told s → r ≡ s
+told-known (Ok (Read c)) (Ok (Read d)) e = cc
+told-known (Ok (Read c)) (Ok (ReadUp d x mark)) e = let z : ◌≡◌ {A = ℕ} 0 1 = cc in absurd (omega arith)
+told-known (Ok (Read c)) (Err why) e = absurd (refused-accepted (sym e))
+told-known (Ok (ReadUp c x mark)) (Ok (Read d)) e = let z : ◌≡◌ {A = ℕ} 0 1 = cc in absurd (omega arith)
+told-known (Ok (ReadUp c x mark)) (Ok (ReadUp d y mark')) e = cc
+told-known (Ok (ReadUp c x mark)) (Err why) e = absurd (refused-accepted (sym e))
+told-known (Err why) (Ok (Read d)) e = absurd (refused-accepted e)
+told-known (Err why) (Ok (ReadUp d x mark)) e = absurd (refused-accepted e)
+told-known (Err a) (Err b) e = let s = refused-same e in ap Err (refusal-one a b s.0 s.1)
 
-told-known : (r s : Known) → known_told r ≡ known_told s → r ≡ s
-told-known (Read c) (Read d) e = cc
-told-known (Read c) (ReadUp d x mark) e = let z : ◌≡◌ {A = ℕ} 0 1 = cc in absurd (omega arith)
-told-known (Read c) (Unread n) e = absurd (refused-accepted (sym e))
-told-known (ReadUp c x mark) (Read d) e = let z : ◌≡◌ {A = ℕ} 0 1 = cc in absurd (omega arith)
-told-known (ReadUp c x mark) (ReadUp d y mark') e = cc
-told-known (ReadUp c x mark) (Unread n) e = absurd (refused-accepted (sym e))
-told-known (Unread n) (Read d) e = absurd (refused-accepted e)
-told-known (Unread n) (ReadUp d x mark) e = absurd (refused-accepted e)
-told-known (Unread n) (Unread m) e = cc
+pub code-determined : (v : Velocity) (r s : Result Codes Refusal) → told r ≡ codes_of v → told s ≡ codes_of v → r ≡ s
+code-determined v r s p q = told-injective r s (p ∙ sym q)
 
-pub code-determined : (v : Velocity) (r s : Coded) → coded_told r ≡ codes_of v → coded_told s ≡ codes_of v → r ≡ s
-code-determined v r s p q = told-coded r s (p ∙ sym q)
-
-pub known-determined : (c : Codes) (r s : Known) → known_told r ≡ known_of c → known_told s ≡ known_of c → r ≡ s
+pub known-determined : (c : Codes) (r s : Result Known Refusal) → known_told r ≡ known_of c → known_told s ≡ known_of c → r ≡ s
 known-determined c r s p q = told-known r s (p ∙ sym q)

@@ -23,13 +23,6 @@ pub enum Codes {
     WithVertical(u16, u16, u8, Mark),
 }
 
-// The codes, or the refusal's number.
-#[derive(Clone, Copy)]
-pub enum Coded {
-    As(Codes),
-    Refused(u8),
-}
-
 // Bearing and speed together.
 #[derive(Clone, Copy)]
 pub struct Course {
@@ -37,25 +30,9 @@ pub struct Course {
     pub speed: f64,
 }
 
-// What codes stand for: the course, and beside it a vertical speed with its
-// mark; or the refusal's number.
+// What codes stand for: the course, and beside it a vertical speed with its mark.
 #[derive(Clone, Copy)]
 pub enum Known {
     Horizontal(Course),
     WithVertical(Course, f64, Mark),
-    Refused(u8),
-}
-
-// A code, or that there is none.
-#[derive(Clone, Copy)]
-pub enum Whole {
-    Is(u16),
-    Not,
-}
-
-// The codes of a bearing and a speed, or that there are none.
-#[derive(Clone, Copy)]
-pub enum Flat {
-    At(u16, u16),
-    Not,
 }

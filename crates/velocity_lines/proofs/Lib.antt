@@ -1,4 +1,3 @@
 pub mod Marks
 pub mod Shown
-pub mod Glued
 pub mod Determined

@@ -1,18 +1,17 @@
 -- `up` and `down` are the marks, and no other word is one.
+use Rattle.std.specs.Prelude.{Option, Some, None}
 use Rattle.std.proofs.Common.{◌≡◌, ℕ, Bool, true, false, eqb, ◌↔◌, List, [], ◌∷◌, length, get_or, refl, ap, ◌∙◌, ⊎_elim, arith, eqb-true}
 use Rattle.octets.specs.Choice.{when◌then◌else◌}
 use Rattle.octets.proofs.Choice.{chosen}
 use Rattle.words.specs.Said.{said}
 use Rattle.velocity.specs.declared.Mark.{Mark}
 use Rattle.velocity.specs.declared.Mark.TheVariants.{Upward, Downward}
-use Rattle.velocity_lines.specs.declared.Marked.{Marked}
-use Rattle.velocity_lines.specs.declared.Marked.TheVariants.{Is, Not}
 use Rattle.velocity_lines.specs.Velocities.{typed_mark}
 
-no-mark : {m : Mark} → Not ≡ Is m → ⊥
-no-mark e = let z : ◌≡◌ {A = ℕ} 0 1 = cc in omega arith
+no-mark : {m : Mark} → None ≡ Some m → ⊥
+no-mark e = cc
 
-same-mark : {m k : Mark} → Is m ≡ Is k → m ≡ k
+same-mark : {m k : Mark} → Some m ≡ Some k → m ≡ k
 same-mark e = cc
 
 -- the word of a mark
@@ -35,11 +34,11 @@ four (a ∷ b ∷ c ∷ d ∷ []) e = refl
 four (a ∷ b ∷ c ∷ d ∷ x ∷ l) e = absurd (omega arith)
 
 -- past a test that has to hold
-past : {m : Mark} (t : Bool) {x : Marked} → (when t then x else Not) ≡ Is m → (t ≡ true) × (x ≡ Is m)
+past : {m : Mark} (t : Bool) {x : Option Mark} → (when t then x else None) ≡ Some m → (t ≡ true) × (x ≡ Some m)
 past true e = (refl, e)
 past false e = absurd (no-mark e)
 
-marked : (w : List ℕ) (m : Mark) → typed_mark w ≡ Is m → w ≡ word_of m
+marked : (w : List ℕ) (m : Mark) → typed_mark w ≡ Some m → w ≡ word_of m
 unfolding typed_mark
 marked w m e =
     ⊎_elim
@@ -64,10 +63,10 @@ marked w m e =
     (chosen (eqb (length w) 4) f.1))
     (chosen (eqb (length w) 2) e)
 
-pub mark-exactly : (w : List ℕ) (m : Mark) → (typed_mark w ≡ Is m) ↔ (w ≡ word_of m)
+pub mark-exactly : (w : List ℕ) (m : Mark) → (typed_mark w ≡ Some m) ↔ (w ≡ word_of m)
 unfolding typed_mark
 mark-exactly w m = (marked w m, λ e. ap typed_mark e ∙ there m)
   where
-    there : (m : Mark) → typed_mark (word_of m) ≡ Is m
+    there : (m : Mark) → typed_mark (word_of m) ≡ Some m
     there Upward = refl
     there Downward = refl

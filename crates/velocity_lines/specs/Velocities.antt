@@ -1,12 +1,10 @@
 -- The lines of the requests for velocities: velocity, velocity-back, each in two forms.
-use Rattle.std.specs.Prelude.{ℕ, ◌%◌, true, false, List, ◌++◌, length, pos, ◌==◌, nat_eq, slice_index, Float}
+use Rattle.std.specs.Prelude.{ℕ, ◌%◌, true, false, List, ◌++◌, length, pos, ◌==◌, nat_eq, slice_index, Float, Option, Some, None}
 use Rattle.std.specs.Float.{fin}
 use Rattle.std.specs.Float.Ieee.{lt, to_unsigned}
 use Rattle.octets.specs.Choice.{when◌then◌else◌}
 use Rattle.octets.specs.Answer.{Answer, accepted, refused}
 use Rattle.words.specs.Said.{said}
-use Rattle.decimals.specs.declared.Real.{Real}
-use Rattle.decimals.specs.declared.Real.TheVariants.{Is as Value, Not as NoValue}
 use Rattle.decimals.specs.Decimals.{real_of_lem}
 use Rattle.velocity.specs.declared.Mark.{Mark}
 use Rattle.velocity.specs.declared.Mark.TheVariants.{Upward, Downward}
@@ -19,21 +17,19 @@ use Rattle.fields.specs.Kinds.{FieldSays}
 use Rattle.forms.specs.Rows.{VELOCITY, VELOCITY-LONG, VELOCITY-BACK}
 use Rattle.requests.specs.Words.{number_at, octet_at_lem, octets_at}
 use Rattle.lines.specs.Lines.{counted, refusal}
-use Rattle.velocity_lines.specs.declared.Marked.{Marked}
-use Rattle.velocity_lines.specs.declared.Marked.TheVariants.{Is, Not}
 
 -- which mark a word is: up, down, or none
-unfoldable pub typed_mark : List ℕ → Marked
+unfoldable pub typed_mark : List ℕ → Option Mark
 typed_mark word =
     when length word == 2
-    then (when nat_eq (slice_index word 0) 117 then (when nat_eq (slice_index word 1) 112 then Is Upward else Not)
-    else Not)
+    then (when nat_eq (slice_index word 0) 117 then (when nat_eq (slice_index word 1) 112 then Some Upward else None)
+    else None)
     else when length word == 4
     then (when nat_eq (slice_index word 0) 100
     then (when nat_eq (slice_index word 1) 111
-    then (when nat_eq (slice_index word 2) 119 then (when nat_eq (slice_index word 3) 110 then Is Downward else Not)
-    else Not) else Not) else Not)
-    else Not
+    then (when nat_eq (slice_index word 2) 119 then (when nat_eq (slice_index word 3) 110 then Some Downward else None)
+    else None) else None) else None)
+    else None
 
 -- a mark, after what stands before it
 abbrev pub mark_word : Mark → List ℕ
@@ -73,14 +69,14 @@ abbrev pub bad_line : List ℕ
 bad_line = said "bad line"
 
 -- the line by a measured value; a word that is none makes the line a bad one
-abbrev pub by_value : Real → (Float → List ℕ) → List ℕ
-by_value (Value x) line = line x
-by_value NoValue line = bad_line
+abbrev pub by_value : Option Float → (Float → List ℕ) → List ℕ
+by_value (Some x) line = line x
+by_value None line = bad_line
 
 -- the line by a mark
-abbrev pub by_mark : Marked → (Mark → List ℕ) → List ℕ
-by_mark (Is mark) line = line mark
-by_mark Not line = bad_line
+abbrev pub by_mark : Option Mark → (Mark → List ℕ) → List ℕ
+by_mark (Some mark) line = line mark
+by_mark None line = bad_line
 
 -- velocity BEARING SPEED, by its words
 unfoldable pub velocity_line : List ℕ → List ℕ → List ℕ

@@ -2,47 +2,27 @@
 #![tactic(auto)]
 
 ghost use Rattle.std.specs.Prelude.{◌≡◌};
+ghost use Rattle.octets.specs.Told.{told};
 ghost use Rattle.printing.specs.Sheet.{sheet, pour};
-ghost use Rattle.velocity.specs.Told.{coded_told, known_told};
+ghost use Rattle.velocity.specs.Told.{known_told};
 ghost use Rattle.requests.specs.Along.{said_in};
 ghost use Rattle.velocity_lines.specs.Velocities.{typed_mark, mark_word, codes_line, coded_line, whole_in, course_line, known_line, velocity_line, velocity_long_line, back_long_line, velocities_line_lem};
 
-use decimals::Real;
 use forms::{VELOCITY, VELOCITY_BACK, VELOCITY_LONG};
+use octets::{Numbered, Refusal};
 use requests::Request;
-use velocity::{Coded, Codes, Course, Known, Mark, Velocity};
-
-// A mark, or that the word is none.
-#[derive(Clone, Copy)]
-pub enum Marked {
-    Is(Mark),
-    Not,
-}
+use velocity::{Codes, Course, Known, Mark, Velocity};
 
 // The mark that a word is: up or down.
-fn mark_of(word: &[u8]) -> Marked
+#[tactic(auto, unfolding(crate::specs::Velocities::typed_mark))]
+fn mark_of(word: &[u8]) -> Option<Mark>
     ensures { result ≡ typed_mark word.now }
 {
-    if word.len() == 2 {
-        if word[0] == b'u' {
-            if word[1] == b'p' {
-                return Marked::Is(Mark::Upward);
-            }
-        }
-        return Marked::Not;
+    match word {
+        b"up" => Some(Mark::Upward),
+        b"down" => Some(Mark::Downward),
+        _ => None,
     }
-    if word.len() == 4 {
-        if word[0] == b'd' {
-            if word[1] == b'o' {
-                if word[2] == b'w' {
-                    if word[3] == b'n' {
-                        return Marked::Is(Mark::Downward);
-                    }
-                }
-            }
-        }
-    }
-    Marked::Not
 }
 
 // Puts a mark, and answers the next place.
@@ -76,32 +56,35 @@ fn say_codes(codes: Codes, out: &mut [u8]) -> usize
 }
 
 // Says codes, or the refusal.
-fn say_coded(coded: Coded, out: &mut [u8]) -> usize
+#[tactic(auto, unfolding(crate::specs::Velocities::coded_line))]
+fn say_coded(coded: Result<Codes, Refusal>, out: &mut [u8]) -> usize
     ensures { sheet out.new result ≡
-        pour (sheet out.old 0) (coded_line (coded_told coded)) }
+        pour (sheet out.old 0) (coded_line (told coded)) }
 {
     match coded {
-        Coded::As(codes) => say_codes(codes, out),
-        Coded::Refused(n) => sayings::say_refusal(n, out),
+        Ok(codes) => say_codes(codes, out),
+        Err(why) => sayings::say_refusal(why.number(), out),
     }
 }
 
 // Codes two words that are measured values, and says the codes.
+#[tactic(auto, unfolding(crate::specs::Velocities::velocity_line))]
 fn say_velocity(bearing: &[u8], speed: &[u8], out: &mut [u8]) -> usize
     ensures { sheet out.new result ≡
         pour (sheet out.old 0)
         (velocity_line bearing.now speed.now) }
 {
-    match reals::real_of(bearing) {
-        Real::Not => printing::put_text(b"bad line", out, 0),
-        Real::Is(b) => match reals::real_of(speed) {
-            Real::Not => printing::put_text(b"bad line", out, 0),
-            Real::Is(s) => say_coded(coding::code(Velocity::Horizontal(b, s)), out),
-        },
-    }
+    let Some(b) = reals::real_of(bearing) else {
+        return printing::put_text(b"bad line", out, 0);
+    };
+    let Some(s) = reals::real_of(speed) else {
+        return printing::put_text(b"bad line", out, 0);
+    };
+    say_coded(coding::code(Velocity::Horizontal(b, s)), out)
 }
 
 // Codes three words that are measured values, with a mark, and says the codes.
+#[tactic(auto, unfolding(crate::specs::Velocities::velocity_long_line))]
 fn say_velocity_long(
     bearing: &[u8],
     speed: &[u8],
@@ -113,21 +96,19 @@ fn say_velocity_long(
         pour (sheet out.old 0)
         (velocity_long_line bearing.now speed.now vertical.now mark.now) }
 {
-    match reals::real_of(bearing) {
-        Real::Not => printing::put_text(b"bad line", out, 0),
-        Real::Is(b) => match reals::real_of(speed) {
-            Real::Not => printing::put_text(b"bad line", out, 0),
-            Real::Is(s) => match reals::real_of(vertical) {
-                Real::Not => printing::put_text(b"bad line", out, 0),
-                Real::Is(u) => match mark_of(mark) {
-                    Marked::Not => printing::put_text(b"bad line", out, 0),
-                    Marked::Is(m) => {
-                        say_coded(coding::code(Velocity::WithVertical(b, s, u, m)), out)
-                    }
-                },
-            },
-        },
-    }
+    let Some(b) = reals::real_of(bearing) else {
+        return printing::put_text(b"bad line", out, 0);
+    };
+    let Some(s) = reals::real_of(speed) else {
+        return printing::put_text(b"bad line", out, 0);
+    };
+    let Some(u) = reals::real_of(vertical) else {
+        return printing::put_text(b"bad line", out, 0);
+    };
+    let Some(m) = mark_of(mark) else {
+        return printing::put_text(b"bad line", out, 0);
+    };
+    say_coded(coding::code(Velocity::WithVertical(b, s, u, m)), out)
 }
 
 // The whole number that a value above -1 and below 65536 is, its fraction dropped; 0 for any other.
@@ -152,38 +133,41 @@ fn put_course(course: Course, out: &mut [u8]) -> usize
 }
 
 // Says what codes stand for, or the refusal.
-fn say_known(known: Known, out: &mut [u8]) -> usize
+#[tactic(auto, unfolding(crate::specs::Velocities::known_line))]
+fn say_known(known: Result<Known, Refusal>, out: &mut [u8]) -> usize
     ensures { sheet out.new result ≡
         pour (sheet out.old 0) (known_line (known_told known)) }
 {
     match known {
-        Known::Horizontal(course) => put_course(course, out),
-        Known::WithVertical(course, u, mark) => {
+        Ok(Known::Horizontal(course)) => put_course(course, out),
+        Ok(Known::WithVertical(course, u, mark)) => {
             let speed = put_course(course, out);
             let vertical = sayings::put_count(b" vertical ", whole(u), out, speed);
             put_mark(mark, out, vertical)
         }
-        Known::Refused(n) => sayings::say_refusal(n, out),
+        Err(why) => sayings::say_refusal(why.number(), out),
     }
 }
 
 // Reads codes and a word that is a mark, and says what they stand for.
+#[tactic(auto, unfolding(crate::specs::Velocities::back_long_line))]
 fn say_back_long(bearing: u16, speed: u16, vertical: u8, mark: &[u8], out: &mut [u8]) -> usize
     ensures { sheet out.new result ≡
         pour (sheet out.old 0)
         (back_long_line bearing speed vertical mark.now) }
 {
-    match mark_of(mark) {
-        Marked::Not => printing::put_text(b"bad line", out, 0),
-        Marked::Is(m) => say_known(
-            courses::read(Codes::WithVertical(bearing, speed, vertical, m)),
-            out,
-        ),
-    }
+    let Some(m) = mark_of(mark) else {
+        return printing::put_text(b"bad line", out, 0);
+    };
+    say_known(
+        courses::read(Codes::WithVertical(bearing, speed, vertical, m)),
+        out,
+    )
 }
 
 // Puts the answer's line to a request for a velocity at the front of `out`, and answers the next
 // place. What `out` has no room for is left out.
+#[tactic(auto, unfolding(crate::specs::Velocities::velocities_line_lem))]
 pub fn velocities_line(request: Request, octets: &[u8], out: &mut [u8]) -> usize
     ensures { sheet out.new result ≡
         pour (sheet out.old 0)

@@ -1,4 +1,5 @@
 -- How far a word reaches, and how large what it stands for can be.
+use Rattle.std.specs.Prelude.{Some, None}
 use Prim.Native.Nat.{ℕ, suc, ◌+◌, ◌*◌, ◌%◌, ◌≤◌, ◌<◌}
 use mathlib.Core.Path.{◌≡◌}
 use mathlib.Core.Bool.{Bool, true, false}
@@ -11,7 +12,6 @@ use lib.Dec.{ltb, eqb}
 use lib.ListN.{length, get_or, drop, length-drop}
 use Rattle.octets.specs.Choice.{when◌then◌else◌}
 use Rattle.octets.proofs.Choice.{chosen}
-use Rattle.words.specs.declared.Number.TheVariants.{Is, Not}
 use Rattle.words.specs.Digits.{value_of}
 use Rattle.words.specs.Words.{word_length, digits_from, number_of, all_digits_lem, octet_of_lem}
 
@@ -28,14 +28,14 @@ word-short (c ∷ cs) = go (eqb c 32) (word-short cs)
 pub word-within : (l : List ℕ) (from : ℕ) → from ≤ length l → from + word_length (drop from l) ≤ length l
 word-within l from h = omega (arith, word-short (drop from l), length-drop from l)
 
-is-not : {v : ℕ} → Not ≡ Is v → ⊥
-is-not e = let z : ◌≡◌ {A = ℕ} 0 1 = cc in omega arith
+is-not : {v : ℕ} → None ≡ Some v → ⊥
+is-not e = cc
 
-is_same : {v w : ℕ} → Is v ≡ Is w → v ≡ w
+is_same : {v w : ℕ} → Some v ≡ Some w → v ≡ w
 is_same e = cc
 
 -- a number is at most what it may be
-digits-most : (most v w : ℕ) (l : List ℕ) → v ≤ most → digits_from most v l ≡ Is w → w ≤ most
+digits-most : (most v w : ℕ) (l : List ℕ) → v ≤ most → digits_from most v l ≡ Some w → w ≤ most
 unfolding digits_from
 digits-most most v w [] h e = omega (arith, is_same e)
 digits-most most v w (c ∷ cs) h e =
@@ -43,7 +43,7 @@ digits-most most v w (c ∷ cs) h e =
     (λ x. ⊎_elim (λ y. absurd (is-not y.1)) (λ y. digits-most most (10 * v + value_of c) w cs (ltb-false most (10 * v + value_of c) y.0) y.1) (chosen (ltb most (10 * v + value_of c)) x.1))
     (chosen (ltb 9 (value_of c)) e)
 
-pub number-most : (most v : ℕ) (l : List ℕ) → number_of most l ≡ Is v → v ≤ most
+pub number-most : (most v : ℕ) (l : List ℕ) → number_of most l ≡ Some v → v ≤ most
 unfolding number_of
 number-most most v l e =
     ⊎_elim (λ x. absurd (is-not x.1))
@@ -51,7 +51,7 @@ number-most most v l e =
     (chosen (eqb (length l) 0) e)
 
 -- an octet is below 256
-pub octet-most : (v : ℕ) (l : List ℕ) → octet_of_lem l ≡ Is v → v ≤ 255
+pub octet-most : (v : ℕ) (l : List ℕ) → octet_of_lem l ≡ Some v → v ≤ 255
 unfolding octet_of_lem
 octet-most v l e =
     ⊎_elim

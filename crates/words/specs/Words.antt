@@ -1,9 +1,7 @@
 -- Words of a line, and what each stands for.
-use Rattle.std.specs.Prelude.{ℕ, suc, ◌+◌, ◌*◌, ◌/◌, ◌%◌, Bool, true, false, List, [], ◌∷◌, ltb, eqb, length, get_or, drop}
+use Rattle.std.specs.Prelude.{ℕ, suc, ◌+◌, ◌*◌, ◌/◌, ◌%◌, Bool, true, false, List, [], ◌∷◌, ltb, eqb, length, get_or, drop, Option, Some, None}
 use Rattle.octets.specs.Choice.{when◌then◌else◌}
 use Rattle.words.specs.Digits.{value_of}
-use Rattle.words.specs.declared.Number.{Number}
-use Rattle.words.specs.declared.Number.TheVariants.{Is, Not}
 
 -- how many octets stand before the first space
 unfoldable pub word_length : List ℕ → ℕ
@@ -23,18 +21,18 @@ same (a ∷ xs) [] = false
 same (a ∷ xs) (b ∷ ys) = when eqb a b then same xs ys else false
 
 -- the number that decimal digits go on to, after digits that stand for v; it may not pass `most`
-unfoldable pub digits_from : ℕ → ℕ → List ℕ → Number
-digits_from most v [] = Is v
+unfoldable pub digits_from : ℕ → ℕ → List ℕ → Option ℕ
+digits_from most v [] = Some v
 digits_from most v (c ∷ cs) =
-    when ltb 9 (value_of c) then Not
-    else when ltb most (10 * v + value_of c) then Not
+    when ltb 9 (value_of c) then None
+    else when ltb most (10 * v + value_of c) then None
     else digits_from most (10 * v + value_of c) cs
 
 -- a number: decimal digits alone, one to ten of them, up to `most`
-unfoldable pub number_of : ℕ → List ℕ → Number
+unfoldable pub number_of : ℕ → List ℕ → Option ℕ
 number_of most word =
-    when eqb (length word) 0 then Not
-    else when ltb 10 (length word) then Not
+    when eqb (length word) 0 then None
+    else when ltb 10 (length word) then None
     else digits_from most 0 word
 
 -- whether each octet is a hexadecimal digit
@@ -52,12 +50,12 @@ are_octets most word =
     else all_digits_lem word
 
 -- one octet: two hexadecimal digits, the high half first
-unfoldable pub octet_of_lem : List ℕ → Number
+unfoldable pub octet_of_lem : List ℕ → Option ℕ
 octet_of_lem word =
     when eqb (length word) 2
     then (when all_digits_lem word
-    then Is ((16 * value_of (get_or word 0 0) + value_of (get_or word 1 0)) % 256) else Not)
-    else Not
+    then Some ((16 * value_of (get_or word 0 0) + value_of (get_or word 1 0)) % 256) else None)
+    else None
 
 -- two digits an octet, the high half first
 unfoldable pub pairs_of : List ℕ → List ℕ

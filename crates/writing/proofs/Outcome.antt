@@ -60,9 +60,9 @@ module _ (s : Shape) (most : ℕ) (o : Order) (buffer : List ℕ) where
       unfolding written_of measure_of
       measured-written = rw (fit, run, plain-exceeds s o fitting, counted-octets) (tested (unheld s (lengths_of o)) (ltb most (size_of s (lengths_of o))) (frame_of s (lengths_of o)) (λ f. accepted (f.size, order_octets s o)))
 
-      pub unmeasured : (n : ℕ) → refused n 0 ≡ measure_of s most (lengths_of o) → leaving (refused n 0) buffer ≡ write_parts_of s most o buffer
+      pub unmeasured : (n at : ℕ) → refused n at ≡ measure_of s most (lengths_of o) → leaving (refused n at) buffer ≡ write_parts_of s most o buffer
       unfolding write_parts_of
-      unmeasured n e = rw (measured-written, sym e) refl
+      unmeasured n at e = rw (measured-written, sym e) refl
 
       module _ (f : Frame) (e : accepted f ≡ measure_of s most (lengths_of o)) where
         framed : f ≡ frame_of s (lengths_of o)

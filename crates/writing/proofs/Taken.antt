@@ -1,5 +1,6 @@
 -- What writing accepts, and what it leaves in the lent buffer: a message
 -- that reads with the same row.
+use Rattle.std.specs.Prelude.{Some}
 use Prim.Native.Nat.{ℕ, ◌≤◌}
 use mathlib.Core.Path.{◌≡◌, refl, sym, ◌∙◌, ap, subst}
 use mathlib.Core.Bool.{true, false}
@@ -17,7 +18,6 @@ use Rattle.octets.proofs.Answer.{refused-accepted, accepted-same, past-test}
 use Rattle.octets.proofs.Filled.{room-accepted, take-filled}
 use Rattle.layout.specs.declared.Shape.{Shape}
 use Rattle.parts.specs.declared.Parts.{Parts}
-use Rattle.layout.specs.declared.Row.TheVariants.{Has}
 use Rattle.layout.specs.Container.{parts_of}
 use Rattle.layout.proofs.Exactly.{parts-exactly}
 use Rattle.runs.specs.Params.{Param, Params}
@@ -56,22 +56,22 @@ written-taken s most o n ys e =
 -- what `write_parts` accepts of a row, `read_parts` accepts with the same row; it is in the compact
 -- form and says what was given, octet for octet
 pub write-parts-reads-back : (s : Shape) (most : ℕ) (o : Order) (buffer : List ℕ) (n : ℕ) (left : List ℕ) → write_parts_of s most o buffer ≡ leaving (accepted n) left
-    → (p : Parts) × (qs : List Param) × (parts_of (take n left) (length o.head) most (Has s) ≡ accepted p) × Compact (take n left) (length o.head) s p qs × (said_by (take n left) (length o.head) p ≡ o)
+    → (p : Parts) × (qs : List Param) × (parts_of (take n left) (length o.head) most (Some s) ≡ accepted p) × Compact (take n left) (length o.head) s p qs × (said_by (take n left) (length o.head) p ≡ o)
 unfolding write_parts_of
 write-parts-reads-back s most o buffer n left e =
     let r = room-accepted buffer (written_of s most o) e in
     let t = written-taken s most o n r.0 r.1 in
     let q : take n left ≡ order_octets s o = ap (take n) r.3 ∙ take-filled r.0 buffer n t.count ∙ t.octets in
-    subst (λ (m : List ℕ). (p : Parts) × (qs : List Param) × (parts_of m (length o.head) most (Has s) ≡ accepted p) × Compact m (length o.head) s p qs × (said_by m (length o.head) p ≡ o)) (sym q)
+    subst (λ (m : List ℕ). (p : Parts) × (qs : List Param) × (parts_of m (length o.head) most (Some s) ≡ accepted p) × Compact m (length o.head) s p qs × (said_by m (length o.head) p ≡ o)) (sym q)
     (reads t.fits ((is-run-exactly o.run).0 t.whole) t.short)
   where
     reads : (f : Fits s o) → (qs : List Param) × Params o.run 0 qs (length o.run) → length (order_octets s o) ≤ most
-        → (p : Parts) × (qs : List Param) × (parts_of (order_octets s o) (length o.head) most (Has s) ≡ accepted p) × Compact (order_octets s o) (length o.head) s p qs × (said_by (order_octets s o) (length o.head) p ≡ o)
+        → (p : Parts) × (qs : List Param) × (parts_of (order_octets s o) (length o.head) most (Some s) ≡ accepted p) × Compact (order_octets s o) (length o.head) s p qs × (said_by (order_octets s o) (length o.head) p ≡ o)
     reads f ps short =
         let l = written-laid s o f ps.0 ps.1 in (
           placed s o f,
           ps.0,
-          (parts-exactly (order_octets s o) (length o.head) most (Has s) (placed s o f)).1
+          (parts-exactly (order_octets s o) (length o.head) most (Some s) (placed s o f)).1
               (record { shape = s; params = ps.0; least = omega (arith, l.whole); most = short; listed = refl; laid = l }),
           written-compact s o f ps.0 ps.1,
           written-says s o f,

@@ -20,4 +20,4 @@ returns-then-sized c =
 pub returns : goal.returns
 returns c =
     let a = c.args in
-    desk-left-same refl c.say_refusal.ensures ∙ ap (λ (x : DeskTurn). desk_left_by x (sheet a.out.now 0)) (turn-unsized a.line.now (length a.scratch.now) (desk_from a.states.now a.owners.now a.helpers.now a.totals.now a.ticks.now) c.if-scratch-lt-SCRATCH_LEAST.false (sym c.sized.ensures ∙ c.if-sized.false))
+    desk-left-same refl (rw c.number.ensures at c.say_refusal.ensures) ∙ ap (λ (x : DeskTurn). desk_left_by x (sheet a.out.now 0)) (turn-unsized a.line.now (length a.scratch.now) (desk_from a.states.now a.owners.now a.helpers.now a.totals.now a.ticks.now) c.if-scratch-lt-SCRATCH_LEAST.false (sym c.sized.ensures ∙ c.if-sized.false))

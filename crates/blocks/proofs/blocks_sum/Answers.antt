@@ -1,40 +1,20 @@
-use Prim.Native.Nat.{ℕ, ◌+◌}
-use mathlib.Core.Path.{refl, ◌∙◌, ap}
-use native.Mathlib.Omega.{arith}
+use Rattle.std.proofs.Common.{rules, tests, ◌≡◌, ◌+◌, ◌-◌, take, drop, ◌∙◌, arith}
+use Rattle.std.specs.List.{sum_by}
+use Rattle.std.proofs.lemmas.Iterator.{YieldsList-from_slice}
+use Rattle.std.proofs.lemmas.Iterator.Adapters.{fits_from_length, at_most_from_yields_List}
 use Rattle.octets.specs.Octet.{octet}
-use Rattle.octets.specs.Sum.{total}
-use Rattle.totals.proofs.Sums.{total-start, total-next}
+use Rattle.totals.proofs.Spans.{total-octets}
+use Rattle.blocks.proofs.Summed.{summed}
 use Rattle.blocks.proofs.blocks_sum.Goals as goal
 
-pub loop-i-init : goal.loop-i-init
-loop-i-init c = (omega arith, omega arith, total-start _ _)
-
-pub overflow_add-sum : goal.overflow_add-sum
-overflow_add-sum c = omega arith
-
-pub bounds-totals-first : goal.bounds-totals-first
-bounds-totals-first c = omega arith
-
-pub overflow_cast-sum : goal.overflow_cast-sum
-overflow_cast-sum c = record { fits = omega (arith, (c.type_inv.totals (c.args.first + c.loop-i.i)).fits) }
-
-pub overflow_add-sum-in-loop-i : goal.overflow_add-sum-in-loop-i
-overflow_add-sum-in-loop-i c = record { fits = omega (arith, (c.type_inv.totals (c.args.first + c.loop-i.i)).fits) }
-
-pub overflow_add-i : goal.overflow_add-i
-overflow_add-i c = omega arith
-
-pub loop-i-smaller : goal.loop-i-smaller
-loop-i-smaller c = omega arith
-
-pub loop-i-preserved : goal.loop-i-preserved
-loop-i-preserved c =
-    let l = c.loop-i in
+pub sum-requires-clause-fits : goal.sum-requires-clause-fits
+sum-requires-clause-fits c =
     let a = c.args in
-    (omega arith, omega (arith, (c.type_inv.totals (a.first + l.i)).fits), total-next (octet a.totals.now) a.first l.i l.sum _ l.invariant.2 refl)
+    fits_from_length _ _ 64 _ (at_most_from_yields_List (YieldsList-from_slice (take (a.first + a.count - a.first) (drop a.first a.totals.now)) cc) (search rules)) c.map.ensures.closure (omega arith) (λ x r q k. search (rules, tests))
 
 pub returns : goal.returns
 returns c =
-    let l = c.loop-i in
     let a = c.args in
-    (l.invariant.2 ∙ ap (λ (n : ℕ). total (octet a.totals.now) a.first n) (omega arith), omega arith)
+    let k : c.sum.result ≡ sum_by (λ x. x) (take a.count (drop a.first a.totals.now)) = search rules in
+    let s = summed (λ x. x) a.totals.now a.first a.count c.requires.0 in
+    (k ∙ s, omega (arith, k, s, total-octets (octet a.totals.now) (λ i. (c.type_inv.totals i).fits) a.first a.count))

@@ -1,3 +1,4 @@
+use Rattle.octets.proofs.Told.{handed_on}
 use mathlib.Core.Bool.{not}
 use mathlib.Core.Path.{ap}
 use mathlib.Core.Path.{sym, ◌∙◌}
@@ -16,12 +17,12 @@ returns-then-not-legal c =
     let a = c.args in
     desk-20 a.states.now a.circuit a.set a.answer.now c.if-states-ne-CIRCUITS.false c.if-circuit-gt4095.false (sym c.legal.ensures ∙ not-true _ (ap not c.if-not-legal.true))
 
-pub returns-in-Refused : goal.returns-in-Refused
-returns-in-Refused c =
-    let a = c.args in
-    desk-short a.states.now a.circuit a.set a.answer.now c.if-states-ne-CIRCUITS.false c.if-circuit-gt4095.false (sym c.legal.ensures ∙ not-false _ (ap not c.if-not-legal.false)) _ _ c.notice.ensures _ _ c.in-Refused.is
+pub returns-in_err-n : goal.returns-in_err-n
+returns-in_err-n c =
+    rw (handed_on _ _ c.from_residual.ensures.1) (let a = c.args in
+    desk-short a.states.now a.circuit a.set a.answer.now c.if-states-ne-CIRCUITS.false c.if-circuit-gt4095.false (sym c.legal.ensures ∙ not-false _ (ap not c.if-not-legal.false)) _ _ c.notice.ensures _ c.in_err-n.was)
 
-pub returns-in-Octets : goal.returns-in-Octets
-returns-in-Octets c =
+pub returns : goal.returns
+returns c =
     let a = c.args in
-    desk-done a.states.now a.circuit a.set a.answer.now c.if-states-ne-CIRCUITS.false c.if-circuit-gt4095.false (sym c.legal.ensures ∙ not-false _ (ap not c.if-not-legal.false)) _ _ c.notice.ensures _ _ c.in-Octets.is c.local_block.ensures
+    desk-done a.states.now a.circuit a.set a.answer.now c.if-states-ne-CIRCUITS.false c.if-circuit-gt4095.false (sym c.legal.ensures ∙ not-false _ (ap not c.if-not-legal.false)) _ _ c.notice.ensures _ _ c.in_ok-n.was c.local_block.ensures

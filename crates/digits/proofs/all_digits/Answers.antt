@@ -1,16 +1,27 @@
-use Rattle.words.proofs.Steps.{all-broken, all_more, all-ended}
-use native.Mathlib.Omega.{arith}
-use mathlib.Core.Path.{refl, sym, ◌∙◌}
+use Rattle.std.proofs.Common.{ℕ, ◌≡◌, ◌∙◌, Bool, false, ◌&&◌, List, [], ◌∷◌, ltb, leb, refl, arith, rules, tests}
+use Rattle.std.specs.List.{list_all}
+use Rattle.std.proofs.lemmas.Iterator.{YieldsList-from_slice}
+use Rattle.std.proofs.lemmas.Iterator.Search.{all_from_yields_List}
+use Rattle.std.proofs.lemmas.Bool.Decides.{nat_tests}
+use Rattle.octets.specs.Choice.{when◌then◌else◌}
+use Rattle.words.specs.Digits.{value_of}
+use Rattle.words.specs.Words.{all_digits_lem}
 use Rattle.digits.proofs.all_digits.Goals as goal
 
-pub loop-i-init : goal.loop-i-init
-loop-i-init c = (omega arith, refl)
+-- whether an octet is a hexadecimal digit, as the code asks it
+abbrev is_digit : ℕ → Bool
+is_digit c = leb (value_of c) 15
 
-pub returns-then-value-gt15 : goal.returns-then-value-gt15
-returns-then-value-gt15 c = sym (all-broken c.args.word.now c.loop-i.i (omega arith) (omega arith)) ∙ c.loop-i.invariant.1
+-- an octet by the code's test and by the definition's
+either : (c : ℕ) (rest : Bool) → (is_digit c && rest) ≡ (when ltb 15 (value_of c) then false else rest)
+either c rest = grind (arith, nat_tests)
 
-pub loop-i-preserved : goal.loop-i-preserved
-loop-i-preserved c = (omega arith, sym (all_more c.args.word.now c.loop-i.i (omega arith) (omega arith)) ∙ c.loop-i.invariant.1)
+-- each octet of a word by them
+alike : (word : List ℕ) → list_all is_digit word ≡ all_digits_lem word
+unfolding all_digits_lem
+alike [] = refl
+alike (c ∷ cs) = rw (alike cs) (either c (all_digits_lem cs))
 
 pub returns : goal.returns
-returns c = sym (all-ended c.args.word.now c.loop-i.i (omega arith)) ∙ c.loop-i.invariant.1
+returns c =
+    all_from_yields_List is_digit _ _ c.all.result c.all.ensures.ran (YieldsList-from_slice c.args.word.now cc) (λ x b q k. search (rules, tests)) ∙ alike c.args.word.now

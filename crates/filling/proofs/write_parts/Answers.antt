@@ -1,6 +1,6 @@
+use Rattle.octets.proofs.Told.{handed_on}
 use mathlib.Core.Bool.{not}
 use mathlib.Core.Path.{sym, ◌∙◌, ap}
-use Rattle.measuring.specs.Told.{measured_told}
 use Rattle.writing.specs.Write.{order}
 use Rattle.writing.proofs.Outcome.{no_run, a-run, ten, eleven, unmeasured, thirteen, storable, wrote}
 use Rattle.filling.proofs.write_parts.Goals as goal
@@ -18,19 +18,19 @@ returns-then-not-is_run c = let a = c.args in
 pub returns-then-out-size : goal.returns-then-out-size
 returns-then-out-size c = let a = c.args in
     let o = order a.head.now a.kind a.fixed.now a.first.now a.second.now a.third.now a.run.now in
-    thirteen a.shape a.most o a.out.now (sym c.unfit.ensures ∙ c.if-unfit.false) (a-run _ c.is_run.ensures (ap not c.if-not-is_run.false)) _ (sym (ap measured_told c.in-Fits.is) ∙ c.measure.ensures) c.if-out-size.true
+    thirteen a.shape a.most o a.out.now (sym c.unfit.ensures ∙ c.if-unfit.false) (a-run _ c.is_run.ensures (ap not c.if-not-is_run.false)) _ c.in_ok-frame.ensures c.if-out-size.true
 
 pub store-requires : goal.store-requires
 store-requires c = let a = c.args in
     let o = order a.head.now a.kind a.fixed.now a.first.now a.second.now a.third.now a.run.now in
-    storable a.shape a.most o a.out.now (sym c.unfit.ensures ∙ c.if-unfit.false) (a-run _ c.is_run.ensures (ap not c.if-not-is_run.false)) _ (sym (ap measured_told c.in-Fits.is) ∙ c.measure.ensures) c.if-out-size.false
+    storable a.shape a.most o a.out.now (sym c.unfit.ensures ∙ c.if-unfit.false) (a-run _ c.is_run.ensures (ap not c.if-not-is_run.false)) _ c.in_ok-frame.ensures c.if-out-size.false
 
-pub returns-in-Refused : goal.returns-in-Refused
-returns-in-Refused c = let a = c.args in
+pub returns-in_err-frame : goal.returns-in_err-frame
+returns-in_err-frame c = let a = c.args in
     let o = order a.head.now a.kind a.fixed.now a.first.now a.second.now a.third.now a.run.now in
-    unmeasured a.shape a.most o a.out.now (sym c.unfit.ensures ∙ c.if-unfit.false) (a-run _ c.is_run.ensures (ap not c.if-not-is_run.false)) _ (sym (ap measured_told c.in-Refused.is) ∙ c.measure.ensures)
+    rw (handed_on _ _ c.from_residual.ensures.1) (unmeasured a.shape a.most o a.out.now (sym c.unfit.ensures ∙ c.if-unfit.false) (a-run _ c.is_run.ensures (ap not c.if-not-is_run.false)) _ _ c.in_err-frame.ensures)
 
-pub returns-else-out-size : goal.returns-else-out-size
-returns-else-out-size c = let a = c.args in
+pub returns : goal.returns
+returns c = let a = c.args in
     let o = order a.head.now a.kind a.fixed.now a.first.now a.second.now a.third.now a.run.now in
-    wrote a.shape a.most o a.out.now (sym c.unfit.ensures ∙ c.if-unfit.false) (a-run _ c.is_run.ensures (ap not c.if-not-is_run.false)) _ (sym (ap measured_told c.in-Fits.is) ∙ c.measure.ensures) _ c.if-out-size.false c.store.ensures
+    wrote a.shape a.most o a.out.now (sym c.unfit.ensures ∙ c.if-unfit.false) (a-run _ c.is_run.ensures (ap not c.if-not-is_run.false)) _ c.in_ok-frame.ensures _ c.if-out-size.false c.store.ensures

@@ -1,6 +1,7 @@
 use native.Mathlib.Omega.{arith}
+use Rattle.octets.proofs.Told.{handed_on}
 use Rattle.rights.specs.Tables.{tables}
-use Rattle.planning.proofs.Laying.{out-states, out-owners, out-helpers, out-ticks, out-kind, out-illegal, out-stuck, count-within, out-room, ready, out-plan}
+use Rattle.planning.proofs.Laying.{out-states, out-owners, out-helpers, out-ticks, out-kind, out-refused, count-within, out-room, ready, out-plan}
 use Rattle.laying.proofs.plan.Goals as goal
 
 pub returns-then-states-ne-CIRCUITS : goal.returns-then-states-ne-CIRCUITS
@@ -31,29 +32,24 @@ returns-then-kind-gt1 c =
 pub overflow_mul-count : goal.overflow_mul-count
 overflow_mul-count c =
     let a = c.args in
-    omega (arith, count-within (tables a.states.now a.owners.now a.helpers.now) a.ticks.now a.sender a.kind a.out.now c.if-states-ne-CIRCUITS.false c.if-owners-ne-CIRCUITS.false c.if-helpers-ne-CIRCUITS.false c.if-ticks-ne-CIRCUITS.false c.if-kind-gt1.false _ c.survey.ensures _ c.in-Ticked.is)
+    omega (arith, count-within (tables a.states.now a.owners.now a.helpers.now) a.ticks.now a.sender a.kind a.out.now c.if-states-ne-CIRCUITS.false c.if-owners-ne-CIRCUITS.false c.if-helpers-ne-CIRCUITS.false c.if-ticks-ne-CIRCUITS.false c.if-kind-gt1.false _ c.survey.ensures _ c.in_ok-count.was)
 
 pub returns-then-out-count : goal.returns-then-out-count
 returns-then-out-count c =
     let a = c.args in
-    out-room (tables a.states.now a.owners.now a.helpers.now) a.ticks.now a.sender a.kind a.out.now c.if-states-ne-CIRCUITS.false c.if-owners-ne-CIRCUITS.false c.if-helpers-ne-CIRCUITS.false c.if-ticks-ne-CIRCUITS.false c.if-kind-gt1.false _ c.survey.ensures _ c.in-Ticked.is c.if-out-count.true
+    out-room (tables a.states.now a.owners.now a.helpers.now) a.ticks.now a.sender a.kind a.out.now c.if-states-ne-CIRCUITS.false c.if-owners-ne-CIRCUITS.false c.if-helpers-ne-CIRCUITS.false c.if-ticks-ne-CIRCUITS.false c.if-kind-gt1.false _ c.survey.ensures _ c.in_ok-count.was c.if-out-count.true
 
-pub lay-n-requires : goal.lay-n-requires
-lay-n-requires c =
+pub lay-requires : goal.lay-requires
+lay-requires c =
     let a = c.args in
-    ready (tables a.states.now a.owners.now a.helpers.now) a.ticks.now a.sender a.kind a.out.now c.if-states-ne-CIRCUITS.false c.if-owners-ne-CIRCUITS.false c.if-helpers-ne-CIRCUITS.false c.if-ticks-ne-CIRCUITS.false c.if-kind-gt1.false _ c.survey.ensures _ c.in-Ticked.is c.if-out-count.false
+    ready (tables a.states.now a.owners.now a.helpers.now) a.ticks.now a.sender a.kind a.out.now c.if-states-ne-CIRCUITS.false c.if-owners-ne-CIRCUITS.false c.if-helpers-ne-CIRCUITS.false c.if-ticks-ne-CIRCUITS.false c.if-kind-gt1.false _ c.survey.ensures _ c.in_ok-count.was c.if-out-count.false
 
-pub returns-in-Illegal : goal.returns-in-Illegal
-returns-in-Illegal c =
+pub returns-in_err-count : goal.returns-in_err-count
+returns-in_err-count c =
     let a = c.args in
-    out-illegal (tables a.states.now a.owners.now a.helpers.now) a.ticks.now a.sender a.kind a.out.now c.if-states-ne-CIRCUITS.false c.if-owners-ne-CIRCUITS.false c.if-helpers-ne-CIRCUITS.false c.if-ticks-ne-CIRCUITS.false c.if-kind-gt1.false _ c.survey.ensures c.in-Illegal.is
+    rw (handed_on _ _ c.from_residual.ensures.1) (out-refused (tables a.states.now a.owners.now a.helpers.now) a.ticks.now a.sender a.kind a.out.now c.if-states-ne-CIRCUITS.false c.if-owners-ne-CIRCUITS.false c.if-helpers-ne-CIRCUITS.false c.if-ticks-ne-CIRCUITS.false c.if-kind-gt1.false _ c.survey.ensures _ c.in_err-count.was)
 
-pub returns-in-Stuck : goal.returns-in-Stuck
-returns-in-Stuck c =
+pub returns : goal.returns
+returns c =
     let a = c.args in
-    out-stuck (tables a.states.now a.owners.now a.helpers.now) a.ticks.now a.sender a.kind a.out.now c.if-states-ne-CIRCUITS.false c.if-owners-ne-CIRCUITS.false c.if-helpers-ne-CIRCUITS.false c.if-ticks-ne-CIRCUITS.false c.if-kind-gt1.false _ c.survey.ensures c.in-Stuck.is
-
-pub returns-else-out-count : goal.returns-else-out-count
-returns-else-out-count c =
-    let a = c.args in
-    out-plan (tables a.states.now a.owners.now a.helpers.now) a.ticks.now a.sender a.kind a.out.now c.if-states-ne-CIRCUITS.false c.if-owners-ne-CIRCUITS.false c.if-helpers-ne-CIRCUITS.false c.if-ticks-ne-CIRCUITS.false c.if-kind-gt1.false _ c.survey.ensures _ c.in-Ticked.is c.if-out-count.false _ _ c.lay-n.ensures.0 c.lay-n.ensures.1
+    out-plan (tables a.states.now a.owners.now a.helpers.now) a.ticks.now a.sender a.kind a.out.now c.if-states-ne-CIRCUITS.false c.if-owners-ne-CIRCUITS.false c.if-helpers-ne-CIRCUITS.false c.if-ticks-ne-CIRCUITS.false c.if-kind-gt1.false _ c.survey.ensures _ c.in_ok-count.was c.if-out-count.false _ _ c.lay.ensures.0 c.lay.ensures.1

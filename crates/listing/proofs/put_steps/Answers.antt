@@ -7,23 +7,23 @@ use Rattle.listing.proofs.put_steps.Goals as goal
 pub loop-f-init : goal.loop-f-init
 loop-f-init c = (length c.args.message.now, omega arith, refl, refl)
 
-pub shape_of-out-in-Done : goal.shape_of-out-in-Done
-shape_of-out-in-Done c = c.loop-f.invariant.2
+pub shape_of-out-in-None : goal.shape_of-out-in-None
+shape_of-out-in-None c = c.loop-f.invariant.2
 
-pub returns-in-Done : goal.returns-in-Done
-returns-in-Done c =
+pub returns-in-None : goal.returns-in-None
+returns-in-None c =
     let l = c.loop-f in
-    sym (text-done l.invariant.0 _ _ _ (sym c.step_of.ensures ∙ c.in-Done.is)) ∙ l.invariant.3
+    sym (text-done l.invariant.0 _ _ _ (sym c.step_of.ensures ∙ c.in-None.is)) ∙ l.invariant.3
 
 pub overflow_add-place : goal.overflow_add-place
-overflow_add-place c = let x = offered _ _ _ (sym c.step_of.ensures ∙ c.in-Param.is) in omega (arith, x.inside)
+overflow_add-place c = let x = offered _ _ _ (sym c.step_of.ensures ∙ c.in-Some.is) in omega (arith, x.inside)
 
 pub loop-f-smaller : goal.loop-f-smaller
-loop-f-smaller c = let x = offered _ _ _ (sym c.step_of.ensures ∙ c.in-Param.is) in omega (arith, x.starts, x.inside)
+loop-f-smaller c = let x = offered _ _ _ (sym c.step_of.ensures ∙ c.in-Some.is) in omega (arith, x.starts, x.inside)
 
 pub loop-f-preserved : goal.loop-f-preserved
 loop-f-preserved c =
     let l = c.loop-f in
     let p = c.put_param-next in
-    let s = text-more l.invariant.0 _ _ _ _ _ l.invariant.1 (sym c.step_of.ensures ∙ c.in-Param.is) p.ensures in
+    let s = text-more l.invariant.0 _ _ _ _ _ l.invariant.1 (sym c.step_of.ensures ∙ c.in-Some.is) p.ensures in
     (s.0, s.1, p.auto.out ∙ l.invariant.2, s.2 ∙ l.invariant.3)

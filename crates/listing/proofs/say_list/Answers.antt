@@ -1,8 +1,7 @@
-use borrow.Author.Tests.{eq-eqb, ne_eqb}
 use Rattle.listing.proofs.say_list.Goals as goal
 
-pub returns-then-refusal-eq0 : goal.returns-then-refusal-eq0
-returns-then-refusal-eq0 c = rw (eq-eqb _ _ c.if-refusal-eq0.true) c.say_steps.ensures
+pub returns-in-Ok : goal.returns-in-Ok
+returns-in-Ok c = rw c.in-Ok.is c.say_steps.ensures
 
-pub returns : goal.returns
-returns c = rw (ne_eqb _ _ c.if-refusal-eq0.false) c.say_fault.ensures
+pub returns-in-Err : goal.returns-in-Err
+returns-in-Err c = rw c.in-Err.is (rw (c.number.ensures, c.place.ensures) at c.say_fault.ensures)

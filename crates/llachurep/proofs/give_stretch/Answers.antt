@@ -7,7 +7,7 @@ use Prim.Native.Nat.{ℕ}
 use Rattle.llachurep.proofs.give_stretch.Goals as goal
 
 pub returns-then-stretch-lt2 : goal.returns-then-stretch-lt2
-returns-then-stretch-lt2 c = rw (lt-ltb _ _ c.if-stretch-lt2.true) (ap (λ (v : ℕ). given v c.args.stretch.now) c.refusal.ensures)
+returns-then-stretch-lt2 c = rw (lt-ltb _ _ c.if-stretch-lt2.true) (ap (λ (v : ℕ). given v c.args.stretch.now) c.refused.ensures)
 
 pub returns : goal.returns
 returns c = rw (le-ltb _ _ c.if-stretch-lt2.false) (ap (given c.args.holder) (sets-filled (c.args.at ∷ c.args.len ∷ []) c.args.stretch.now c.if-stretch-lt2.false))

@@ -1,9 +1,10 @@
 use mathlib.Core.Path.{◌∙◌}
-use Rattle.finding.proofs.Given.{refused-located, read-located}
+use Rattle.finding.proofs.Given.{handed_on, refused-located, read-located}
 use Rattle.locating.proofs.locate.Goals as goal
 
-pub returns-in-Refused : goal.returns-in-Refused
-returns-in-Refused c = let a = c.args in refused-located a.message.now _ c.read.ensures a.defaults.now a.name _ _ c.in-Refused.is
+pub returns-in_err-x : goal.returns-in_err-x
+returns-in_err-x c =
+    rw (handed_on _ _ c.from_residual.ensures.1) (let a = c.args in refused-located a.message.now _ c.read.ensures a.defaults.now a.name _ c.in_err-x.was)
 
-pub returns-in-Read : goal.returns-in-Read
-returns-in-Read c = let a = c.args in c.locate_in.ensures ∙ read-located a.message.now _ c.read.ensures a.defaults.now a.name _ c.in-Read.is
+pub returns : goal.returns
+returns c = let a = c.args in c.locate_in.ensures ∙ read-located a.message.now _ c.read.ensures a.defaults.now a.name _ c.in_ok-x.was

@@ -1,26 +1,29 @@
+use Rattle.octets.proofs.Told.{handed_on}
+use Rattle.std.specs.Prelude.{is_some}
 use Rattle.rights.specs.Tables.{tables}
 use Rattle.rights.proofs.Given.{permit-against, none-against, permit-illegal, permit-taken, permit-all}
-use Rattle.rights.specs.Rights.{is_found}
 use mathlib.Core.Path.{sym, ap, ◌∙◌}
 use Rattle.permits.proofs.permit_inside.Goals as goal
 
-pub returns-then-number-ne0 : goal.returns-then-number-ne0
-returns-then-number-ne0 c = let a = c.args in permit-against (tables a.states.now a.owners.now a.helpers.now) a.sender a.ask _ c.against-number.ensures c.if-number-ne0.true
-
-pub returns-then-found : goal.returns-then-found
-returns-then-found c =
+pub returns-in_err-against : goal.returns-in_err-against
+returns-in_err-against c =
     let a = c.args in
-    let n = none-against (tables a.states.now a.owners.now a.helpers.now) a.sender a.ask (sym c.if-number-ne0.false ∙ c.against-number.ensures) in
-    permit-illegal (tables a.states.now a.owners.now a.helpers.now) a.sender a.ask n.0 n.1 (sym (c.found.ensures ∙ ap is_found c.first_illegal.ensures) ∙ c.if-found.true)
+    rw (handed_on _ _ c.from_residual.ensures.1) (permit-against (tables a.states.now a.owners.now a.helpers.now) a.sender a.ask _ _ c.in_err-against.ensures)
+
+pub returns-then-is_some : goal.returns-then-is_some
+returns-then-is_some c =
+    let a = c.args in
+    let n = none-against (tables a.states.now a.owners.now a.helpers.now) a.sender a.ask c.in_ok-against.ensures in
+    permit-illegal (tables a.states.now a.owners.now a.helpers.now) a.sender a.ask n.0 n.1 (sym (c.is_some.ensures ∙ ap is_some c.first_illegal.ensures) ∙ c.if-is_some.true)
 
 pub returns-then-taken : goal.returns-then-taken
 returns-then-taken c =
     let a = c.args in
-    let n = none-against (tables a.states.now a.owners.now a.helpers.now) a.sender a.ask (sym c.if-number-ne0.false ∙ c.against-number.ensures) in
-    permit-taken (tables a.states.now a.owners.now a.helpers.now) a.sender a.ask n.0 n.1 (sym (c.found.ensures ∙ ap is_found c.first_illegal.ensures) ∙ c.if-found.false) (sym c.taken.ensures ∙ c.if-taken.true)
+    let n = none-against (tables a.states.now a.owners.now a.helpers.now) a.sender a.ask c.in_ok-against.ensures in
+    permit-taken (tables a.states.now a.owners.now a.helpers.now) a.sender a.ask n.0 n.1 (sym (c.is_some.ensures ∙ ap is_some c.first_illegal.ensures) ∙ c.if-is_some.false) (sym c.taken.ensures ∙ c.if-taken.true)
 
 pub returns : goal.returns
 returns c =
     let a = c.args in
-    let n = none-against (tables a.states.now a.owners.now a.helpers.now) a.sender a.ask (sym c.if-number-ne0.false ∙ c.against-number.ensures) in
-    permit-all (tables a.states.now a.owners.now a.helpers.now) a.sender a.ask n.0 n.1 (sym (c.found.ensures ∙ ap is_found c.first_illegal.ensures) ∙ c.if-found.false) (sym c.taken.ensures ∙ c.if-taken.false)
+    let n = none-against (tables a.states.now a.owners.now a.helpers.now) a.sender a.ask c.in_ok-against.ensures in
+    permit-all (tables a.states.now a.owners.now a.helpers.now) a.sender a.ask n.0 n.1 (sym (c.is_some.ensures ∙ ap is_some c.first_illegal.ensures) ∙ c.if-is_some.false) (sym c.taken.ensures ∙ c.if-taken.false)

@@ -1,3 +1,4 @@
+use mathlib.Core.Logic.{⊎_elim}
 use Prim.Native.Nat.{suc}
 use mathlib.Core.Path.{refl, sym, ◌∙◌}
 use native.Mathlib.Omega.{arith}
@@ -26,10 +27,6 @@ loop-f-preserved c = let l = c.loop-f in
     (s.0, s.1, l.invariant.2 ∙ s.2)
 
 pub returns-in-Close : goal.returns-in-Close
-returns-in-Close c = let l = c.loop-f in sym (l.invariant.2 ∙ seeks-over _ _ l.invariant.0 _ _ (sym c.step_at.ensures ∙ c.in-Close.is) tt)
-
-pub returns-in-End : goal.returns-in-End
-returns-in-End c = let l = c.loop-f in sym (l.invariant.2 ∙ seeks-over _ _ l.invariant.0 _ _ (sym c.step_at.ensures ∙ c.in-End.is) tt)
-
-pub returns-in-Pass : goal.returns-in-Pass
-returns-in-Pass c = let l = c.loop-f in sym (l.invariant.2 ∙ seeks-over _ _ l.invariant.0 _ _ (sym c.step_at.ensures ∙ c.in-Pass.is) tt)
+returns-in-Close c =
+    let l = c.loop-f in
+    sym (l.invariant.2 ∙ ⊎_elim (λ e. seeks-over _ _ l.invariant.0 _ _ (sym c.step_at.ensures ∙ e) tt) (⊎_elim (λ e. seeks-over _ _ l.invariant.0 _ _ (sym c.step_at.ensures ∙ e) tt) (λ e. seeks-over _ _ l.invariant.0 _ _ (sym c.step_at.ensures ∙ e) tt)) c.in-Close.is)

@@ -1,8 +1,10 @@
+use Rattle.octets.proofs.Told.{handed_on}
 use Rattle.sccp.proofs.Given.{read-laid, read-broken}
 use Rattle.sccp_codec.proofs.read.Goals as goal
 
-pub returns-in-Laid : goal.returns-in-Laid
-returns-in-Laid c = read-laid c.args.message.now _ _ _ c.kind_at-kind.ensures c.shape_of.ensures c.read_parts.ensures _ c.in-Laid.is
+pub returns : goal.returns
+returns c = read-laid c.args.message.now _ _ _ c.kind_at-kind.ensures c.shape_of.ensures c.read_parts.ensures _ c.in_ok-parts.was
 
-pub returns-in-Broken : goal.returns-in-Broken
-returns-in-Broken c = read-broken c.args.message.now _ _ _ c.kind_at-kind.ensures c.shape_of.ensures c.read_parts.ensures _ _ c.in-Broken.is
+pub returns-in_err-parts : goal.returns-in_err-parts
+returns-in_err-parts c =
+    rw (handed_on _ _ c.from_residual.ensures.1) (read-broken c.args.message.now _ _ _ c.kind_at-kind.ensures c.shape_of.ensures c.read_parts.ensures _ c.in_err-parts.was)

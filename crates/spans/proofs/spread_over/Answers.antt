@@ -1,36 +1,25 @@
-use Prim.Native.Nat.{ℕ, ◌+◌, ◌-◌}
-use mathlib.Core.Path.{refl, sym, ◌∙◌, ap}
+use Prim.Native.Nat.{ℕ, ◌-◌}
+use mathlib.Core.Path.{sym, ◌∙◌}
 use native.Mathlib.Omega.{arith}
-use lib.ListN.{length, length-set}
-use Rattle.octets.specs.Applied.{applied}
-use Rattle.octets.proofs.Applied.{applied-none, applied-more}
-use Rattle.spans.proofs.Spread.{end-reached, end-within}
+use lib.ListN.{length}
+use Rattle.octets.proofs.Applied.{applied-none}
+use Rattle.spans.proofs.Spread.{end-reached, end-most, spread-filled}
 use Rattle.spans.proofs.spread_over.Goals as goal
 
-pub loop-place-init : goal.loop-place-init
-loop-place-init c =
-    let a = c.args in
-    let e = c.end_of-end.ensures in
-    (e, refl, ap (λ (n : ℕ). applied (λ (k old : ℕ). a.octet) a.first (n - a.first) a.table.now) e ∙ end-reached (λ (k old : ℕ). a.octet) a.first a.last a.table.now)
+pub slice_bounds-fill-end : goal.slice_bounds-fill-end
+slice_bounds-fill-end c = omega (arith, end-most (length c.args.table.now) c.args.last)
 
-pub bounds-table-place : goal.bounds-table-place
-bounds-table-place c =
+pub returns-then-first-end : goal.returns-then-first-end
+returns-then-first-end c =
     let a = c.args in
-    let l = c.loop-place in
-    omega (arith, l.invariant.1, end-within (length a.table.now) a.last l.place (omega (arith, l.invariant.0)))
+    let end = c.end_of-end.result in
+    let most = end-most (length a.table.now) a.last in
+    spread-filled a.octet a.first (end - a.first) a.table.now c.fill.new.self (omega (arith, most)) (c.fill.ensures.after (λ y same. same))
+    ∙ end-reached (λ (place old : ℕ). a.octet) a.first a.last end a.table.now c.end_of-end.ensures
 
-pub loop-place-preserved : goal.loop-place-preserved
-loop-place-preserved c =
+pub returns-else-first-end : goal.returns-else-first-end
+returns-else-first-end c =
     let a = c.args in
-    let l = c.loop-place in
-    let end = c.end_of-end.result in (
-      l.invariant.0,
-      simp length-set l.invariant.1,
-      sym (applied-more (λ (k old : ℕ). a.octet) l.place (end - l.place) (l.place + 1) (end - (l.place + 1)) a.octet _ (omega arith) (omega arith) refl) ∙ l.invariant.2,
-    )
-
-pub returns : goal.returns
-returns c =
-    let a = c.args in
-    let l = c.loop-place in
-    sym (applied-none (λ (k old : ℕ). a.octet) l.place (c.end_of-end.result - l.place) _ (omega arith)) ∙ l.invariant.2
+    let end = c.end_of-end.result in
+    sym (applied-none (λ (place old : ℕ). a.octet) a.first (end - a.first) a.table.now (omega arith))
+    ∙ end-reached (λ (place old : ℕ). a.octet) a.first a.last end a.table.now c.end_of-end.ensures

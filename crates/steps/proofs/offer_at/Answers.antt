@@ -1,3 +1,4 @@
+use mathlib.Core.Logic.{⊎_elim}
 use mathlib.Core.Path.{sym, ◌∙◌, ap}
 use Rattle.family.specs.Steps.{offer_by, offer_at_lem}
 use Rattle.steps.proofs.offer_at.Goals as goal
@@ -8,12 +9,5 @@ returns-in-Param c = ap offer_by (sym c.in-Param.is ∙ c.step_at.ensures)
 
 pub returns-in-Close : goal.returns-in-Close
 unfolding offer_at_lem
-returns-in-Close c = ap offer_by (sym c.in-Close.is ∙ c.step_at.ensures)
-
-pub returns-in-End : goal.returns-in-End
-unfolding offer_at_lem
-returns-in-End c = ap offer_by (sym c.in-End.is ∙ c.step_at.ensures)
-
-pub returns-in-Pass : goal.returns-in-Pass
-unfolding offer_at_lem
-returns-in-Pass c = ap offer_by (sym c.in-Pass.is ∙ c.step_at.ensures)
+returns-in-Close c =
+    ⊎_elim (λ e. ap offer_by (sym e ∙ c.step_at.ensures)) (⊎_elim (λ e. ap offer_by (sym e ∙ c.step_at.ensures)) (λ e. ap offer_by (sym e ∙ c.step_at.ensures))) c.in-Close.is

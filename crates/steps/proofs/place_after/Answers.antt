@@ -1,3 +1,4 @@
+use mathlib.Core.Logic.{⊎_elim}
 use mathlib.Core.Path.{sym, ◌∙◌, ap}
 use native.Mathlib.Omega.{arith}
 use Rattle.runs.proofs.Steps.{step-says}
@@ -13,12 +14,5 @@ returns-in-Param c = ap (past_by _) (sym c.in-Param.is ∙ c.step_at.ensures)
 
 pub returns-in-Close : goal.returns-in-Close
 unfolding place_after_lem
-returns-in-Close c = ap (past_by _) (sym c.in-Close.is ∙ c.step_at.ensures)
-
-pub returns-in-End : goal.returns-in-End
-unfolding place_after_lem
-returns-in-End c = ap (past_by _) (sym c.in-End.is ∙ c.step_at.ensures)
-
-pub returns-in-Pass : goal.returns-in-Pass
-unfolding place_after_lem
-returns-in-Pass c = ap (past_by _) (sym c.in-Pass.is ∙ c.step_at.ensures)
+returns-in-Close c =
+    ⊎_elim (λ e. ap (past_by _) (sym e ∙ c.step_at.ensures)) (⊎_elim (λ e. ap (past_by _) (sym e ∙ c.step_at.ensures)) (λ e. ap (past_by _) (sym e ∙ c.step_at.ensures))) c.in-Close.is

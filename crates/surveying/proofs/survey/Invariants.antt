@@ -9,8 +9,5 @@ use Rattle.surveying.proofs.survey.Given as goal
 -- what is left has the whole's answer
 abbrev pub invariant-loop-c : goal.invariant-loop-c
 invariant-loop-c l =
-    (l.c ≤ 4096) × (l.n ≤ l.c)
+    (l.n ≤ l.c)
     × (survey_from l.states l.kind (may_block_lem l.kind l.owners l.helpers l.sender) (ticked l.ticks) l.stuck l.n l.c (4096 - l.c) ≡ survey_of l.states l.kind (may_block_lem l.kind l.owners l.helpers l.sender) (ticked l.ticks))
-
-abbrev pub decreases-loop-c : goal.decreases-loop-c
-decreases-loop-c l = 4096 - l.c

@@ -9,15 +9,10 @@ use Rattle.requests.specs.Along.{fields_of, taken_by}
 use Rattle.requests.proofs.Steps.{answer}
 use Rattle.taking.proofs.fields_in.Given as goal
 
-abbrev pub invariant-loop-i : goal.invariant-loop-i
-invariant-loop-i l =
-    (l.i ≤ 8)
-    × (length l.scratch ≡ length l.initial.scratch)
-    × (l.next ≤ l.i * 4294967295)
+abbrev pub invariant-loop-slot : goal.invariant-loop-slot
+invariant-loop-slot l =
+    (l.next ≤ l.slot-index * 4294967295)
     × (done : List Field)
-    × (length done ≡ l.i)
-    × (l.fields ≡ done ++ replicate (8 - l.i) no_field)
-    × (answer l.which done (fields_of (kinds_in (8 - l.i) l.letters) l.before l.line l.at l.scratch l.next) ≡ taken_by l.which (fields_of (kinds_in 8 l.initial.letters) 0 l.line l.end l.initial.scratch 0))
-
-abbrev pub decreases-loop-i : goal.decreases-loop-i
-decreases-loop-i l = 8 - l.i
+    × (length done ≡ l.slot-index)
+    × (l.slot-items ≡ done ++ replicate (8 - l.slot-index) no_field)
+    × (answer l.which done (fields_of (kinds_in (8 - l.slot-index) l.letters) l.before l.line l.at l.scratch l.next) ≡ taken_by l.which (fields_of (kinds_in 8 l.initial.letters) 0 l.line l.end l.initial.scratch 0))

@@ -1,4 +1,4 @@
-use Prim.Native.Nat.{◌-◌, ◌≤◌}
+use Prim.Native.Nat.{◌-◌}
 use mathlib.Core.Path.{◌≡◌}
 use lib.ListN.{length}
 use Rattle.printing.specs.Sheet.{sheet, pour}
@@ -9,9 +9,6 @@ use Rattle.tallies.proofs.put_lines.Given as goal
 
 abbrev pub invariant-loop-sender : goal.invariant-loop-sender
 invariant-loop-sender l =
-    (l.sender ≤ 256) × (length l.out ≡ length l.initial.out) × Below l.sums l.sender
+    (length l.out ≡ length l.initial.out) × Below l.sums l.sender
     × (pour (sheet l.out l.next) (lines_from (tally_in_lem (day l.owners l.states l.accepted l.refused)) l.sender (256 - l.sender)) ≡ pour (sheet l.initial.out 0) (lines_from (tally_in_lem (day l.owners l.states l.accepted l.refused)) 0 256))
     × (added l.sums (sums_from (tally_in_lem (day l.owners l.states l.accepted l.refused)) l.sender (256 - l.sender)) ≡ sums_from (tally_in_lem (day l.owners l.states l.accepted l.refused)) 0 256)
-
-abbrev pub decreases-loop-sender : goal.decreases-loop-sender
-decreases-loop-sender l = 256 - l.sender
