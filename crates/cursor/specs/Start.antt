@@ -13,6 +13,11 @@ abbrev pub refusal_by : Answer Parts → Answer ⊤
 refusal_by (accepted p) = accepted tt
 refusal_by (refused n at) = refused n at
 
+-- the number that it has in the documents: 0 where the message is taken
+abbrev pub start_number : Answer ⊤ → ℕ
+start_number (accepted u) = 0
+start_number (refused n at) = n
+
 -- at its start a cursor holds the lent message itself, and stands where stepping
 -- through a message of the family starts
 abbrev pub Begun : Family → Bor (List ℕ) → Cursor → Type 0

@@ -28,9 +28,10 @@ fn put_all(out: &mut [u8], at: usize, octets: &[u8]) -> usize
     requires { at + length octets.now ≤ length out.old }
     ensures { Stored out.old at octets.now result out.new }
 {
-    let past = at + octets.len();
-    out[at..past].copy_from_slice(octets);
-    past
+    for j in 0..octets.len() {
+        out[at + j] = octets[j];
+    }
+    at + octets.len()
 }
 
 // A pointer, where it is wanted; the place past it.

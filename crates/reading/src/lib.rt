@@ -107,6 +107,8 @@ fn pointers_end(width: u8, shape: Shape) -> usize
 }
 
 // The parts of a message of that shape whose type octet stands at `width`.
+// Written as matches, the refusal first: by `?` the compiler takes the call of `judge` for a rare one
+// and keeps it out of line, which makes reading a short message a quarter dearer.
 #[tactic(auto, unfolding(layout::specs::Container::container_of))]
 fn container(octets: &[u8], width: u8, shape: Shape) -> Result<Parts, Refusal>
     ensures { told result ≡ container_of octets.now width shape }
@@ -117,11 +119,21 @@ fn container(octets: &[u8], width: u8, shape: Shape) -> Result<Parts, Refusal>
     }
     let from = width as usize + 1;
     let at = from + shape.fixed as usize;
-    let first = variable_slot(octets, at, 0, shape.vars, end)?;
-    let second = variable_slot(octets, at, 1, shape.vars, end)?;
-    let third = variable_slot(octets, at, 2, shape.vars, end)?;
-    let optional = optional_slot(octets, shape.opt, end)?;
-    parts::judge(Span { from, to: at }, first, second, third, optional)
+    match variable_slot(octets, at, 0, shape.vars, end) {
+        Err(why) => Err(why),
+        Ok(first) => match variable_slot(octets, at, 1, shape.vars, end) {
+            Err(why) => Err(why),
+            Ok(second) => match variable_slot(octets, at, 2, shape.vars, end) {
+                Err(why) => Err(why),
+                Ok(third) => match optional_slot(octets, shape.opt, end) {
+                    Err(why) => Err(why),
+                    Ok(optional) => {
+                        parts::judge(Span { from, to: at }, first, second, third, optional)
+                    }
+                },
+            },
+        },
+    }
 }
 
 // The parts of a message of a family whose header has that width, whose longest message has `most`

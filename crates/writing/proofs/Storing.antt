@@ -1,10 +1,11 @@
 -- Pieces stored one after the other are their join.
-use Prim.Native.Nat.{ℕ, suc, ◌+◌, ◌≤◌}
-use mathlib.Core.Path.{◌≡◌, refl, ◌∙◌, ap}
+use Prim.Native.Nat.{ℕ, suc, ◌+◌, ◌≤◌, ◌<◌}
+use mathlib.Core.Path.{◌≡◌, refl, sym, ◌∙◌, ap}
 use mathlib.Core.List.{List, [], ◌∷◌, ◌++◌}
 use native.Mathlib.Omega.{arith}
-use lib.ListN.{length, set, length-append}
-use lib.Seq.{sets, length-sets}
+use native.Mathlib.Numerals.{add-one}
+use lib.ListN.{length, get_or, take, set, length-append}
+use lib.Seq.{sets, length-sets, take-suc, take_all, length-take-le}
 use mathlib.Core.Bool.{Bool, true, false}
 use Rattle.writing.specs.Write.{closed_run_lem}
 use lib.Dec.{ltb}
@@ -23,6 +24,9 @@ sets-append (x ∷ a) l i b = let e : i + suc (length a) ≡ suc i + length a = 
 pub stored-nothing : (l : List ℕ) (at : ℕ) → Stored l at [] at l
 stored-nothing l at = record { place = omega arith; made = refl }
 
+pub stored_one : (l : List ℕ) (at b : ℕ) → Stored l at (b ∷ []) (at + 1) (set l at b)
+stored_one l at b = record { place = refl; made = refl }
+
 pub stored-length : {l : List ℕ} {at : ℕ} {ys : List ℕ} {r : ℕ} {k : List ℕ} → Stored l at ys r k → length k ≡ length l
 stored-length {l} {at} {ys} p = ap length p.made ∙ length-sets l at ys
 
@@ -38,6 +42,17 @@ room_after {ys = ys} zs p h = omega (arith, p.place, length-append ys zs, stored
 
 pub room-first : (ys zs : List ℕ) (at n : ℕ) → at + length (ys ++ zs) ≤ n → at + length ys ≤ n
 room-first ys zs at n h = omega (arith, length-append ys zs)
+
+-- a turn of the copying loop
+pub stored-turn : (l k src : List ℕ) (at j : ℕ) → j < length src → Stored l at (take j src) (at + j) k → Stored l at (take (j + 1) src) (at + (j + 1)) (set k (at + j) (get_or src j 0))
+stored-turn l k src at j h p =
+    let e : take (j + 1) src ≡ take j src ++ (get_or src j 0 ∷ []) = ap (λ x. take x src) (add-one j) ∙ take-suc src j 0 h in
+    let r = stored-join p (stored_one k (at + j) (get_or src j 0)) in
+    let n : length (take (j + 1) src) ≡ j + 1 = length-take-le (j + 1) src (omega arith) in
+    record { place = omega arith; made = r.made ∙ ap (sets l at) (sym e) }
+
+pub stored-all : (l k src : List ℕ) (at j : ℕ) → j ≤ length src → length src ≤ j → Stored l at (take j src) (at + j) k → Stored l at src (at + j) k
+stored-all l k src at j a b p = record { place = omega arith; made = p.made ∙ ap (sets l at) (take_all j src b) }
 
 -- a piece that may not be wanted
 pub stored-pointer : {l k : List ℕ} {at r p : ℕ} (w : Bool) → w ≡ true → Stored l at (p ∷ []) r k → Stored l at (pointer_if w p) r k
